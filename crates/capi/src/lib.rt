@@ -1,0 +1,151 @@
+// The C interface: see include/lumbraquay.h. Every function is total.
+ghost use mathlib.Core.Path.{_≡_};
+ghost use Rattle.crc32c.specs.Crc.{crc32c as crcOf};
+ghost use Rattle.wal.specs.Read.{found};
+ghost use Rattle.wal.specs.declared.Before.the-variants.{Found, Nothing};
+ghost use Rattle.page.specs.FreeMap.{mapAfter};
+ghost use Rattle.capi.specs.Answers.{openNumbers, stepNumbers, kindForward, kindBackward, forwardNumbers, backwardNumbers, verifyNumbers, rowNumbers, nextVisibleNumbers, freeMapNumbers};
+use endian::PageNumber;
+use page::NextRow;
+use wal::Before;
+use wal::EntryView;
+use wal::Reading;
+
+// What a step over the log finds: an entry; the exact end, or no entry that ends at the place; a torn tail; damage.
+const ENTRY: u64 = 0;
+
+const END: u64 = 1;
+
+const TORN: u64 = 2;
+
+const DAMAGED: u64 = 4;
+
+// The CRC32c of s.
+#[no_mangle]
+pub extern "C" fn lq_crc32c(s: &[u8]) -> u32
+    ensures { λ r. ⌜ r ≡ crcOf (now (s .entry)) ⌝ }
+{
+    crc32c::crc32c(s)
+}
+
+// Opens a log, behind its header or at the end found by walking: number and place.
+#[no_mangle]
+pub extern "C" fn lq_log_open(log: &[u8], at_end: bool, out: &mut [u64; 2])
+    ensures { λ _. ⌜ now (out .exit) ≡ openNumbers «at_end» (now (log .entry)) ⌝ }
+{
+    let number = wal::header_fault(log);
+    let place = wal::reader::opened_at(log, at_end);
+    *out = [number, place as u64];
+}
+
+// The numbers of a step that finds an entry.
+fn entry_numbers(next: usize, v: EntryView) -> [u64; 11]
+    ensures { λ r. ⌜ r ≡ stepNumbers 0 next (Found v) ⌝ }
+{
+    [
+        ENTRY,
+        next as u64,
+        v.place as u64,
+        v.length as u64,
+        v.lsn.0,
+        v.txn.0,
+        v.kind as u64,
+        v.table as u64,
+        v.key_len as u64,
+        v.old_len as u64,
+        v.new_len as u64,
+    ]
+}
+
+// The numbers of a step that finds none.
+fn no_entry(kind: u64, place: usize) -> [u64; 11]
+    ensures { λ r. ⌜ r ≡ stepNumbers kind place Nothing ⌝ }
+{
+    [kind, place as u64, 0, 0, 0, 0, 0, 0, 0, 0, 0]
+}
+
+// The numbers of what a step forward finds, and of the place after it.
+fn forward_numbers(reading: Reading, next: usize) -> [u64; 11]
+    ensures { λ r. ⌜ r ≡ stepNumbers (kindForward reading) next (found reading) ⌝ }
+{
+    match reading {
+        Reading::Whole(v) => entry_numbers(next, v),
+        Reading::End => no_entry(END, next),
+        Reading::Torn => no_entry(TORN, next),
+        Reading::Damage => no_entry(DAMAGED, next),
+    }
+}
+
+// The numbers of what a step backward finds, and of the place after it.
+fn backward_numbers(reading: Before, next: usize) -> [u64; 11]
+    ensures { λ r. ⌜ r ≡ stepNumbers (kindBackward reading) next reading ⌝ }
+{
+    match reading {
+        Before::Found(v) => entry_numbers(next, v),
+        Before::Nothing => no_entry(END, next),
+    }
+}
+
+// A step forward from place.
+#[no_mangle]
+pub extern "C" fn lq_log_forward(log: &[u8], place: u64, out: &mut [u64; 11])
+    ensures { λ _. ⌜ now (out .exit) ≡ forwardNumbers (now (log .entry)) place ⌝ }
+{
+    let step = wal::reader::forward_at(log, place as usize);
+    let reading = step.found;
+    *out = forward_numbers(reading, step.place);
+}
+
+// A step backward from place.
+#[no_mangle]
+pub extern "C" fn lq_log_backward(log: &[u8], place: u64, out: &mut [u64; 11])
+    ensures { λ _. ⌜ now (out .exit) ≡ backwardNumbers (now (log .entry)) place ⌝ }
+{
+    let step = wal::reader::backward_at(log, place as usize);
+    let reading = step.found;
+    *out = backward_numbers(reading, step.place);
+}
+
+// Whether every page is good: number and place.
+#[no_mangle]
+pub extern "C" fn lq_verify(magic: u64, pages: &[u8], out: &mut [u64; 2])
+    ensures { λ _. ⌜ now (out .exit) ≡ verifyNumbers magic (now (pages .entry)) ⌝ }
+{
+    let v = page::verify(magic, pages);
+    *out = [v.number, v.place];
+}
+
+// The numbers of what a listing step answers.
+fn row_numbers(next: NextRow) -> [u64; 6]
+    ensures { λ r. ⌜ r ≡ rowNumbers next ⌝ }
+{
+    match next {
+        NextRow::Refused(v) => [v.number, v.place, 0, 0, 0, 0],
+        NextRow::At(row) => [0, 0, 1, row.page.0, row.slot as u64, row.length as u64],
+        NextRow::NoMore => [0, 0, 0, 0, 0, 0],
+    }
+}
+
+// The first visible row at or after a slot of a page.
+#[no_mangle]
+pub extern "C" fn lq_next_visible(
+    magic: u64,
+    pages: &[u8],
+    page: u64,
+    slot: u16,
+    out: &mut [u64; 6],
+)
+    ensures { λ _. ⌜ now (out .exit) ≡ nextVisibleNumbers magic (now (pages .entry)) page slot ⌝ }
+{
+    *out = row_numbers(page::next_visible(magic, pages, PageNumber(page), slot as usize));
+}
+
+// Writes the map of free pages: number, place and count of free pages.
+#[no_mangle]
+pub extern "C" fn lq_free_map(magic: u64, pages: &[u8], map: &mut [u8], out: &mut [u64; 3])
+    ensures { λ _. ⌜ now (out .exit) ≡ freeMapNumbers magic (now (pages .entry)) (now (map .entry)) ⌝ }
+    ensures { λ _. ⌜ now (map .exit) ≡ mapAfter magic (now (pages .entry)) (now (map .entry)) ⌝ }
+{
+    let made = page::free_map(magic, pages, map);
+    *out = [made.verdict.number, made.verdict.place, made.free];
+}

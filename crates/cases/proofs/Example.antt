@@ -1,0 +1,212 @@
+-- The example history meets every hypothesis of demand 3: it is honest, its pages stand at their moments, the cut has what they felt, and recovery accepts.
+-- Assumes nothing.
+use mathlib.Core.Path.{_≡_, refl, sym, ap, _∙_, subst}
+use mathlib.Core.Logic.{_⊎_, inl, inr}
+use mathlib.Core.Bool.{Bool, true, false}
+use Prim.Native.Nat.{ℕ, zero, suc, _+_, _≤_, _<_}
+use native.Mathlib.Omega.{arith}
+use mathlib.Core.List.{List, [], _∷_, _++_}
+use lib.ListN.{length, take, drop, getD, replicate}
+use lib.Dec.{eqb, lit<, lit≤}
+use borrow.Author.Tests.{eqb-true}
+use Rattle.endian.specs.Pick.{pick}
+use Rattle.endian.specs.Numbers.{Bytes, bytesOf, numberOf, numberAt}
+use Rattle.endian.proofs.Bytes.{bytes-nil}
+use Rattle.wal.specs.Entry.{Entry, AllEncodable, encoded, encodedAll, unsealed, header, sizesOf}
+use Rattle.wal.specs.Read.{headerFault, readAt}
+use Rattle.wal.specs.Walk.{entries, endOf}
+use Rattle.wal.specs.declared.EntryView.{EntryView}
+use Rattle.wal.specs.declared.Reading.the-variants.{Whole, Torn}
+use Rattle.wal.proofs.WalkLaws.{not-torn}
+use Rattle.wal.proofs.Encoding.{entries-encoded, end-encoded, entries-log}
+use Rattle.page.specs.Layout.{pagesIn, pageAt, slotAt}
+use Rattle.page.specs.Good.{TupleGood}
+use Rattle.rules.specs.Shape.{Change, both, isKnown, isChange, isChanging, isImage, same, isKeyed, isBare, isShaped, pageOf, slotOf, beforeOf, afterOf, isOn, effectOn, topOn, sameSlot}
+use Rattle.rules.specs.Order.{begun, ended, isOpen, inOrder, clashes, faultAfter, orderFrom}
+use Rattle.rules.specs.Mend.{committed, changes, topOf, decided}
+use Rattle.rules.specs.Recover.{recoverOf}
+use Rattle.rules.proofs.Slots.{changes-past}
+use Rattle.history.specs.History.{Step, State, loggedIn, Finds, change, run, start, Honest}
+use Rattle.history.specs.Demand3.{History, Stands, HasFelt}
+use Rattle.history.proofs.OneSlot.{untouched}
+use Rattle.cases.specs.Build.{begins, commits, inserts, updates, magic, page, area}
+use Rattle.cases.specs.Starred.{a, b, c, noRecord}
+use Rattle.cases.specs.Example.{before, steps, whole, log, cut, moment, stood}
+use Rattle.cases.proofs.Parts.{tuple-bytes, bare, insertable, updatable}
+use Rattle.cases.proofs.Area.{PageOk, EachPage, pages-in, page-at, slot-of}
+use Rattle.cases.proofs.Pages.{Says, Computes, number}
+
+-- ---- pages
+
+filled : (lsn n : ℕ) → lsn < 100 → n < 256 → PageOk (page lsn ((replicate 29 0 ++ (n ∷ [])) ∷ []))
+unfolding numberAt numberOf
+filled lsn n l h = record { small = omega arith; tuples = good; bytes = bytes; room = lit≤ tt }
+  where
+    good : (k : ℕ) → TupleGood (getD ((replicate 29 0 ++ (n ∷ [])) ∷ []) k [])
+    good zero = inr (lit≤ tt, lit≤ tt)
+    good (suc k) = inl refl
+
+    bytes : (k : ℕ) → Bytes (getD ((replicate 29 0 ++ (n ∷ [])) ∷ []) k [])
+    bytes zero = tuple-bytes 29 n h
+    bytes (suc k) = bytes-nil
+
+empty-ok : PageOk (page 0 [])
+empty-ok = record { small = lit< tt; tuples = λ k. inl refl; bytes = λ k. bytes-nil; room = lit≤ tt }
+
+-- the slots of the starting pages
+first-ok : EachPage PageOk (page 0 (a ∷ []) ∷ page 0 [] ∷ [])
+first-ok = (filled 0 1 (lit< tt) (lit< tt), (empty-ok, tt))
+
+first-0 : (k : ℕ) → slotAt (pageAt 0 before) k ≡ getD (a ∷ []) k []
+first-0 k = ap (λ (p : List ℕ). slotAt p k) (page-at (page 0 (a ∷ []) ∷ page 0 [] ∷ []) first-ok 0 (lit< tt)) ∙ slot-of 0 _ (filled 0 1 (lit< tt) (lit< tt)) k
+
+first-1 : (k : ℕ) → slotAt (pageAt 1 before) k ≡ []
+first-1 k = ap (λ (p : List ℕ). slotAt p k) (page-at (page 0 (a ∷ []) ∷ page 0 [] ∷ []) first-ok 1 (lit< tt)) ∙ slot-of 1 _ empty-ok k
+
+-- ---- the history
+
+-- a change finds its before-image if its own slot holds it
+finds : (s : State) (e : Entry) → s .slot (pageOf e) (slotOf e) ≡ beforeOf e → (i k : ℕ) → Finds (s .slot i k) (effectOn i k e)
+unfolding effectOn isOn
+finds s e h i k = go (isChange e) (eqb (pageOf e) i) (eqb (slotOf e) k) refl refl
+  where
+    go : (x y z : Bool) → eqb (pageOf e) i ≡ y → eqb (slotOf e) k ≡ z
+        → Finds (s .slot i k) (pick {A = List Change} (both (both x y) z) (record { by = e .txn; before = beforeOf e; after = afterOf e } ∷ []) [])
+    go true true true p q = let pi : pageOf e ≡ i = eqb-true _ _ p in let qk : slotOf e ≡ k = eqb-true _ _ q in (rw (← pi, ← qk) h, tt)
+    go true true false p q = tt
+    go true false z p q = tt
+    go false y z p q = tt
+
+encodable : AllEncodable whole
+encodable = (
+  bare 1 1 7 (lit< tt) (lit< tt) (lit< tt),
+  (
+    updatable 2 7 0 0 (lit< tt) (lit< tt) (tuple-bytes 29 1 (lit< tt)) (tuple-bytes 29 2 (lit< tt)) (lit≤ tt),
+    (
+      bare 2 3 7 (lit< tt) (lit< tt) (lit< tt),
+      (
+        bare 1 4 8 (lit< tt) (lit< tt) (lit< tt),
+        (
+          insertable 5 8 1 0 (lit< tt) (lit< tt) (tuple-bytes 29 1 (lit< tt)) (lit≤ tt),
+          (
+            bare 1 6 9 (lit< tt) (lit< tt) (lit< tt),
+            (updatable 7 9 0 0 (lit< tt) (lit< tt) (tuple-bytes 29 2 (lit< tt)) (tuple-bytes 29 3 (lit< tt)) (lit≤ tt), (insertable 8 9 0 1 (lit< tt) (lit< tt) (tuple-bytes 29 1 (lit< tt)) (lit≤ tt), tt)),
+          ),
+        ),
+      ),
+    ),
+  ),
+)
+
+all-encodable : AllEncodable (whole ++ (begins 9 10 ∷ []))
+all-encodable =
+    let e = encodable in
+    (e .0, (e .1 .0, (e .1 .1 .0, (e .1 .1 .1 .0, (e .1 .1 .1 .1 .0, (e .1 .1 .1 .1 .1 .0, (e .1 .1 .1 .1 .1 .1 .0, (e .1 .1 .1 .1 .1 .1 .1 .0, (bare 1 9 10 (lit< tt) (lit< tt) (lit< tt), tt)))))))))
+
+-- the state after n steps
+abbrev at : ℕ → State
+at n = run (start before) (take n steps)
+
+honest : Honest (start before) steps
+unfolding effectOn isOn isChanging beforeOf afterOf numberAt numberOf bytesOf
+honest = (
+  λ i k. tt,
+  (
+    finds (at 1) (updates 2 7 0 0 a b) (first-0 0),
+    (
+      λ i k. tt,
+      (
+        λ i k. tt,
+        (
+          finds (at 4) (inserts 5 8 1 0 a) (first-1 0),
+          (
+            λ i k. tt,
+            (finds (at 6) (updates 7 9 0 0 b c) refl, (finds (at 7) (inserts 8 9 0 1 a) (first-0 1), (λ i k. tt, tt))),
+          ),
+        ),
+      ),
+    ),
+  ),
+)
+
+pub example : History
+example = record { pages = before; steps = steps; log = log; honest = honest; inLog = entries-log (whole ++ (begins 9 10 ∷ [])) all-encodable }
+
+-- ---- the pages stand at their moments
+
+pub stood-ok : EachPage PageOk (page 7 (c ∷ []) ∷ page 5 (a ∷ []) ∷ [])
+stood-ok = (filled 7 3 (lit< tt) (lit< tt), (filled 5 1 (lit< tt) (lit< tt), tt))
+
+two : pagesIn stood ≡ 2
+two = pages-in (page 7 (c ∷ []) ∷ page 5 (a ∷ []) ∷ []) stood-ok
+
+slot-0 : (k : ℕ) → getD (c ∷ []) k [] ≡ run (start before) (take 9 steps) .slot 0 k
+unfolding effectOn isOn isChanging beforeOf afterOf numberAt numberOf bytesOf topOf topOn
+slot-0 zero = refl
+slot-0 (suc zero) = refl
+slot-0 (suc (suc k)) = sym (untouched 0 (suc (suc k)) (start before) (take 9 steps) (λ t. refl) (changes-past 0 (suc (suc k)) (loggedIn (take 9 steps)) (omega arith)) ∙ first-0 (suc (suc k)))
+
+slot-1 : (k : ℕ) → getD (a ∷ []) k [] ≡ run (start before) (take 5 steps) .slot 1 k
+unfolding effectOn isOn isChanging beforeOf afterOf numberAt numberOf bytesOf topOf topOn
+slot-1 zero = refl
+slot-1 (suc k) = sym (untouched 1 (suc k) (start before) (take 5 steps) (λ t. refl) (changes-past 1 (suc k) (loggedIn (take 5 steps)) (omega arith)) ∙ first-1 (suc k))
+
+pub stands : Stands example moment stood
+unfolding example
+stands = record { slots = λ i k l d. each i k l }
+  where
+    each : (i k : ℕ) → i < pagesIn stood → slotAt (pageAt i stood) k ≡ run (start before) (take (moment i) steps) .slot i k
+    each zero k l = ap (λ (p : List ℕ). slotAt p k) (page-at (page 7 (c ∷ []) ∷ page 5 (a ∷ []) ∷ []) stood-ok 0 (lit< tt)) ∙ slot-of 0 _ (stood-ok .0) k ∙ slot-0 k
+    each (suc zero) k l = ap (λ (p : List ℕ). slotAt p k) (page-at (page 7 (c ∷ []) ∷ page 5 (a ∷ []) ∷ []) stood-ok 1 (lit< tt)) ∙ slot-of 1 _ (stood-ok .1 .0) k ∙ slot-1 k
+    each (suc (suc i)) k l = absurd (omega (arith, two))
+
+-- ---- the cut
+
+cut-is : take cut log ≡ header ++ (encodedAll whole ++ take 20 (encoded (begins 9 10)))
+unfolding encodedAll encoded unsealed header bytesOf
+cut-is = refl
+
+abbrev torn : List ℕ
+torn = header ++ (encodedAll whole ++ take 20 (encoded (begins 9 10)))
+
+torn-head : (headerFault torn ≡ 0) × (length header ≡ 32)
+unfolding headerFault encodedAll encoded unsealed header bytesOf numberAt numberOf
+torn-head = (refl, refl)
+
+reads-torn : readAt torn (32 + sizesOf whole) ≡ Torn
+unfolding readAt encodedAll encoded unsealed header bytesOf numberAt numberOf
+reads-torn = refl
+
+stop : (v : EntryView) → readAt torn (32 + sizesOf whole) ≡ Whole v → ⊥
+stop v q = not-torn (sym reads-torn ∙ q)
+
+end-torn : endOf torn ≡ 32 + sizesOf whole
+end-torn = end-encoded header (take 20 (encoded (begins 9 10))) (torn-head .1) whole encodable stop
+
+pub end-cut : endOf (take cut log) ≡ 32 + sizesOf whole
+end-cut = ap endOf cut-is ∙ end-torn
+
+pub says : Says (take cut log) whole
+says =
+    subst (λ (l : List ℕ). Says l whole) (sym cut-is)
+    (record {
+      head = torn-head .0;
+      says = entries-encoded header (take 20 (encoded (begins 9 10))) (torn-head .1) whole encodable stop;
+      end = rw (end-torn, reads-torn);
+    })
+
+pub felt : HasFelt example moment stood cut
+unfolding example topOf
+felt = record { felt = λ i l d. each i l }
+  where
+    each : (i : ℕ) → i < pagesIn stood → topOf i (drop (length (entries (take cut log))) (loggedIn (take (moment i) steps))) ≡ 0
+    each zero l = rw (says .says)
+    each (suc i) l = rw (says .says)
+
+pub computes : Computes (page 7 (c ∷ []) ∷ page 5 (a ∷ []) ∷ []) whole
+unfolding orderFrom faultAfter isKnown isShaped isBare isImage isKeyed same isChanging inOrder isOpen begun ended clashes sameSlot isOn numberAt numberOf bytesOf
+computes = record { pages = stood-ok; few = lit≤ tt; order = refl; onPage = (lit< tt, (lit< tt, (lit< tt, (lit< tt, (lit< tt, (lit< tt, (lit< tt, (lit< tt, tt)))))))) }
+
+pub ok : recoverOf magic 7 stood (take cut log) (replicate 8 noRecord) .answer .number ≡ 0
+unfolding topOn topOf changes effectOn decided committed isOn isChanging numberAt numberOf bytesOf beforeOf afterOf
+ok = number 7 (page 7 (c ∷ []) ∷ page 5 (a ∷ []) ∷ []) (take cut log) whole (replicate 8 noRecord) refl says computes (lit≤ tt, (lit≤ tt, tt)) (λ t. lit≤ tt, (λ t. lit≤ tt, tt))

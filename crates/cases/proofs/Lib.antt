@@ -1,0 +1,6 @@
+pub mod Parts
+pub mod Area
+pub mod Pages
+pub mod Rows
+pub mod Example
+pub mod ShutOut

@@ -1,0 +1,40 @@
+-- An honest history of two pages and ten steps: transaction 7 commits; 8 has not ended; 9 is in the middle of taking its changes back. The cut tears the last entry, page 0 stands after
+-- nine steps, page 1 after five.
+use Prim.Native.Nat.{ℕ, zero, suc, _+_}
+use mathlib.Core.List.{List, [], _∷_, _++_}
+use lib.ListN.{take}
+use Rattle.wal.specs.Entry.{Entry, encoded, encodedAll, header, sizesOf}
+use Rattle.history.specs.History.{Step, logged, restored}
+use Rattle.cases.specs.Build.{begins, commits, inserts, updates, logOf, page, area}
+use Rattle.cases.specs.Starred.{a, b, c}
+
+abbrev pub before : List ℕ
+before = area (page 0 (a ∷ []) ∷ page 0 [] ∷ [])
+
+abbrev pub steps : List Step
+steps =
+    logged (begins 1 7) ∷ logged (updates 2 7 0 0 a b) ∷ logged (commits 3 7)
+    ∷ logged (begins 4 8) ∷ logged (inserts 5 8 1 0 a)
+    ∷ logged (begins 6 9) ∷ logged (updates 7 9 0 0 b c) ∷ logged (inserts 8 9 0 1 a) ∷ restored 9
+    ∷ logged (begins 9 10) ∷ []
+
+-- the entries of the cut
+abbrev pub whole : List Entry
+whole =
+    begins 1 7 ∷ updates 2 7 0 0 a b ∷ commits 3 7 ∷ begins 4 8 ∷ inserts 5 8 1 0 a
+    ∷ begins 6 9 ∷ updates 7 9 0 0 b c ∷ inserts 8 9 0 1 a ∷ []
+
+abbrev pub log : List ℕ
+log = logOf (whole ++ (begins 9 10 ∷ []))
+
+-- 20 bytes of the last entry
+abbrev pub cut : ℕ
+cut = 32 + sizesOf whole + 20
+
+abbrev pub moment : ℕ → ℕ
+moment zero = 9
+moment (suc i) = 5
+
+-- the pages as they stood
+abbrev pub stood : List ℕ
+stood = area (page 7 (c ∷ []) ∷ page 5 (a ∷ []) ∷ [])

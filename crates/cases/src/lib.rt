@@ -1,0 +1,1 @@
+// Worked cases of the rules, proved of the definitions: there is no code here.

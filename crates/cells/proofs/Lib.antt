@@ -1,0 +1,9 @@
+pub mod Blank
+pub mod CellLaws
+pub mod Keys
+pub mod Sums
+pub mod Pages
+pub mod Turns
+pub mod Beyond
+pub mod Walking
+pub mod Soundness

@@ -1,0 +1,165 @@
+// The walks over a log, the pass over the pages, and the walk for changes to pages that cannot take them.
+ghost use mathlib.Core.Path.{_≡_};
+ghost use mathlib.Core.Bool.{true};
+ghost use Prim.Native.Nat.{_+_, _≤_, max};
+ghost use lib.ListN.{length};
+ghost use lib.Dec.{ltb};
+ghost use Rattle.crc32c.specs.Tables.{Tables};
+ghost use Rattle.endian.specs.Pick.{pick};
+ghost use Rattle.wal.specs.Read.{first};
+ghost use Rattle.wal.specs.Walk.{entries, endOf};
+ghost use Rattle.wal.specs.Prefix.{Stands, said};
+ghost use Rattle.page.specs.Layout.{pageBytes, pagesIn};
+ghost use Rattle.page.specs.Fault.{verdict, accepted};
+ghost use Rattle.rules.specs.Shape.{isShaped};
+ghost use Rattle.rules.specs.Recover.{pagesFrom, isStray, strayFrom};
+ghost use Rattle.cells.specs.Measure.{Sound};
+ghost use Rattle.order.specs.First.{fullOf};
+ghost use Rattle.checks.specs.Judged.{Judged, pageNumber, pagesBy};
+use cells::inner::measure;
+use cells::inner::page_at;
+use clash::inner::clash;
+use endian::Lsn;
+use endian::PageNumber;
+use order::Walked;
+use order::inner::is_change;
+use order::inner::walk;
+use page::DATA_TYPE;
+use page::Fault;
+use page::PAGE_BYTES;
+use page::Verdict;
+use page::inner::fault;
+use page::inner::lsn;
+use wal::FIRST;
+use wal::header_fault;
+use wal::inner::standing;
+
+// Refusals 2 to 10 of a log, over n pages.
+pub fn judge_log(
+    t: &[u32; 2048],
+    log: &[u8],
+    n: usize,
+    bounded: bool,
+    records: u64,
+    starts: &mut [u32; 4097],
+    lasts: &mut [u32; 4096],
+    cells: &mut [u32; 131072],
+) -> Walked
+    requires { ⌜ Tables (now t) ⌝ }
+    requires { ⌜ n ≤ 4096 ⌝ }
+    ensures { λ r. ⌜ Judged (fullOf bounded records) (now (log .entry)) n (now (starts .exit)) (now (lasts .exit)) r ⌝ }
+{
+    let number = header_fault(log);
+    if number != 0 {
+        return Walked {
+            number: number,
+            place: 0,
+            last: Lsn(0),
+        };
+    }
+    let w = walk(t, log, bounded, records);
+    let beyond = measure(log, w.place, n, starts, lasts);
+    let at = clash(log, w.place, n, beyond, starts, cells);
+    if at < w.place {
+        return Walked {
+            number: 9,
+            place: at,
+            last: Lsn(0),
+        };
+    }
+    w
+}
+
+// Refusal 11 or 12 of the page at an index, or 0; `known` is the larger of the floor and the last LSN.
+fn page_number(t: &[u32; 2048], magic: u64, known: u64, index: usize, page: &[u8]) -> u64
+    requires { ⌜ Tables (now t) ⌝ }
+    requires { ⌜ length (now page) ≡ pageBytes ⌝ }
+    ensures { λ r. ⌜ r ≡ pageNumber magic known index (now (page .entry)) ⌝ }
+{
+    let f = fault(t, magic, PageNumber(index as u64), page);
+    let Fault::Sound = f else {
+        return 11;
+    };
+    if known < lsn(page).0 {
+        return 12;
+    }
+    0
+}
+
+// Refusals 11 and 12, page by page, of n pages.
+fn pages_from(t: &[u32; 2048], magic: u64, known: u64, pages: &[u8], n: usize) -> Verdict
+    requires { ⌜ Tables (now t) ⌝ }
+    requires { ⌜ n ≡ pagesIn (now pages) ⌝ }
+    ensures { λ r. ⌜ r ≡ pagesBy magic known (now (pages .entry)) n 0 ⌝ }
+{
+    let mut i: usize = 0;
+    while i < n {
+        let a = i * PAGE_BYTES;
+        let e = a + PAGE_BYTES;
+        let number = page_number(t, magic, known, i, &pages[a..e]);
+        if number != 0 {
+            return Verdict {
+                number: number,
+                place: i as u64,
+            };
+        }
+        i += 1;
+    }
+    Verdict {
+        number: 0,
+        place: 0,
+    }
+}
+
+// The same, by the floor and the last LSN.
+pub fn judge_pages(
+    t: &[u32; 2048],
+    magic: u64,
+    floor: Lsn,
+    last: Lsn,
+    pages: &[u8],
+    n: usize,
+) -> Verdict
+    requires { ⌜ Tables (now t) ⌝ }
+    requires { ⌜ n ≡ pagesIn (now pages) ⌝ }
+    ensures { λ r. ⌜ r ≡ pagesFrom magic (floor .0) (last .0) (now (pages .entry)) n 0 ⌝ }
+{
+    if floor.0 < last.0 {
+        return pages_from(t, magic, last.0, pages, n);
+    }
+    pages_from(t, magic, floor.0, pages, n)
+}
+
+// Whether the entry at `at` changes a page beyond the n lent ones or not of type 1.
+fn is_stray(log: &[u8], at: usize, kind: u8, pages: &[u8], n: usize) -> bool
+    requires { ⌜ Stands (now log) at ⌝ }
+    requires { ⌜ (kind ≡ said (now log) at .kind) × (isShaped (said (now log) at) ≡ true) × (n ≡ pagesIn (now pages)) ⌝ }
+    ensures { λ r. ⌜ r ≡ isStray (now (pages .entry)) (said (now (log .entry)) at) ⌝ }
+{
+    if !is_change(kind) {
+        return false;
+    }
+    let i = page_at(log, at, n);
+    if n <= i {
+        return true;
+    }
+    let kind = pages[i * PAGE_BYTES + 8];
+    kind != DATA_TYPE
+}
+
+// Refusal 13: the place of the first such entry, or end.
+pub fn stray(log: &[u8], end: usize, pages: &[u8], n: usize) -> usize
+    requires { ⌜ (endOf (now log) ≡ end) × (n ≡ pagesIn (now pages)) ⌝ }
+    requires { ⌜ Sound (now log) end ⌝ }
+    ensures { λ r. ⌜ strayFrom (now (pages .entry)) (entries (now (log .entry))) first ≡ pick (ltb r end) (verdict 13 r) accepted ⌝ }
+{
+    let mut at = FIRST;
+    while at < end {
+        let v = standing(log, at);
+        if is_stray(log, at, v.kind, pages, n) {
+            return at;
+        }
+        at = at + v.length;
+    }
+    end
+}

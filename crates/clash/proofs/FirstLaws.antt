@@ -1,0 +1,83 @@
+-- The first clash of a group by a walk, of all groups, and the verdict on clashes. Assumes nothing.
+use Prim.Native.Nat.{ℕ, _+_, _≤_, _<_}
+use mathlib.Core.Path.{_≡_, sym, ap, _∙_, subst}
+use mathlib.Core.Bool.{Bool, true, false}
+use mathlib.Core.List.{List}
+use native.Mathlib.Omega.{arith}
+use native.Mathlib.Decide.{decLt, ℕ-discrete}
+use lib.ListN.{replicate}
+use Rattle.wal.specs.Entry.{entryOf}
+use Rattle.wal.specs.Read.{lengthAt, view}
+use Rattle.wal.specs.declared.EntryView.{EntryView}
+use Rattle.wal.specs.Prefix.{entryIn, Met, Stands, said, before}
+use Rattle.wal.proofs.Prefix.{met-first, met-next, met-from, met-below, Below}
+use Rattle.order.specs.Hints.{Hints, Highest}
+use Rattle.order.proofs.HintLaws.{hints-first, highest-first, highest-next}
+use Rattle.rules.proofs.Tests.{both-true}
+use Rattle.clash.specs.First.{isIn, clashIn, FirstIn}
+use Rattle.clash.specs.Group.{Group, cellFor, noted}
+use Rattle.clash.proofs.GroupLaws.{next-group}
+
+-- no clash on a page of the group before p
+pub record Clean (lo hi : ℕ) (s : List ℕ) (p : ℕ) : Type 0 where
+  pub none : (q : ℕ) → Met s q → q < p → clashIn lo hi s q ≡ false
+
+pub clean-first : (lo hi : ℕ) (s : List ℕ) → Clean lo hi s 32
+clean-first lo hi s = record { none = λ q m h. absurd (omega (arith, met-from s m)) }
+
+-- places of the walk between an entry and the next one: none
+pub clean-next : (lo hi : ℕ) (s : List ℕ) (p : ℕ) → Met s p → Stands s p → clashIn lo hi s p ≡ false → Clean lo hi s p → Clean lo hi s (p + lengthAt s p)
+clean-next lo hi s p m h z c = record { none = λ q n l. go q n l (decLt q p) (ℕ-discrete q p) }
+  where
+    go : (q : ℕ) → Met s q → q < p + lengthAt s p → Dec (q < p) → Dec (q ≡ p) → clashIn lo hi s q ≡ false
+    go q n l (yes b) d = c .none q n b
+    go q n l (no b) (yes e) = ap (clashIn lo hi s) e ∙ z
+    go q n l (no b) (no e) = absurd (omega (arith, met-below s m n (omega arith) .next))
+
+-- ---- a walk for clashes
+pub record Sweeping (s hints : List ℕ) (limit lo hi at high : ℕ) : Type 0 where
+  pub met : Met s at
+  pub upTo : at ≤ limit
+  pub hinted : Hints s at hints
+  pub highest : Highest s at high
+  pub clean : Clean lo hi s at
+
+pub sweeping-first : {s : List ℕ} {limit : ℕ} (lo hi : ℕ) → Met s limit → Sweeping s (replicate 16384 32) limit lo hi 32 0
+sweeping-first {s} lo hi m = record { met = met-first s; upTo = met-from s m; hinted = hints-first s; highest = highest-first s; clean = clean-first lo hi s }
+
+module _ {s hints : List ℕ} {limit lo hi at high : ℕ} (k : Sweeping s hints limit lo hi at high) (end : Met s limit) where
+  -- at the limit there was none
+  pub none-found : limit ≤ at → FirstIn lo hi s limit limit
+  none-found h =
+      let z : at ≡ limit = omega (arith, k .upTo) in
+      record { met = end; low = omega arith; none = λ p m l. k .clean .none p m (omega arith); some = λ l. absurd (omega arith) }
+
+  module _ (h : at < limit) where
+    here : Below s at limit
+    here = met-below s (k .met) end h
+
+    pub sweeping-stands : Stands s at
+    sweeping-stands = here .stands
+
+    -- a clash
+    pub one-found : clashIn lo hi s at ≡ true → FirstIn lo hi s limit at
+    one-found c = record { met = k .met; low = k .upTo; none = k .clean .none; some = λ l. both-true (isIn lo hi (said s at)) _ c .1 }
+
+    -- an entry more
+    pub sweeping-next : (hints2 : List ℕ) (high2 next : ℕ) → clashIn lo hi s at ≡ false → next ≡ at + lengthAt s at → Hints s next hints2 → high ≤ high2 → said s at .txn ≤ high2
+        → Sweeping s hints2 limit lo hi next high2
+    sweeping-next hints2 high2 next z e g a b =
+        record {
+          met = subst (Met s) (sym e) (met-next s (k .met) sweeping-stands);
+          upTo = omega (arith, here .next);
+          hinted = g;
+          highest = subst (λ (x : ℕ). Highest s x high2) (sym e) (highest-next s at (k .met) sweeping-stands high high2 a b (k .highest));
+          clean = subst (Clean lo hi s) (sym e) (clean-next lo hi s at (k .met) sweeping-stands z (k .clean));
+        }
+
+-- the cells of a group, as the walk goes on
+pub group-next : {s starts cells : List ℕ} {limit lo hi at : ℕ} → Group s starts cells limit lo hi at → Met s at → Stands s at → at < limit
+    → (r : Bool) (cells2 : List ℕ) (next : ℕ) → r ≡ clashIn lo hi s at → r ≡ false → cells2 ≡ noted r (cellFor starts lo hi (said s at)) at cells → next ≡ at + lengthAt s at
+    → Group s starts cells2 limit lo hi next
+group-next {s} {starts} {limit = limit} {lo} {hi} {at} g m h l r cells2 next is z c e =
+    subst (λ (x : ℕ). Group s starts cells2 limit lo hi x) (sym e) (subst (λ (y : List ℕ). Group s starts y limit lo hi (at + lengthAt s at)) (sym c) (next-group g m h l r is z))

@@ -1,0 +1,4 @@
+pub mod NewestLaws
+pub mod GroupLaws
+pub mod FirstLaws
+pub mod VerdictLaws

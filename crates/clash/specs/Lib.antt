@@ -1,0 +1,3 @@
+pub mod Newest
+pub mod First
+pub mod Group

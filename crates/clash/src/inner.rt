@@ -1,0 +1,270 @@
+// The first clash of a log, by one walk for each group of pages.
+ghost use mathlib.Core.Path.{_≡_};
+ghost use mathlib.Core.Bool.{true, false};
+ghost use Prim.Native.Nat.{_+_, _-_, _^_, _≤_, _<_};
+ghost use lib.ListN.{length, getD};
+ghost use Rattle.wal.specs.Read.{lengthAt};
+ghost use Rattle.wal.specs.Prefix.{Met, Stands, said, before};
+ghost use Rattle.rules.specs.Shape.{isChange, isShaped, pageOf, slotOf};
+ghost use Rattle.order.specs.Clash.{clashAfter};
+ghost use Rattle.order.specs.Hints.{Hints, Highest};
+ghost use Rattle.cells.specs.Cell.{Starts, Blank};
+ghost use Rattle.cells.specs.Measure.{Sound, FirstBeyond};
+ghost use Rattle.clash.specs.Newest.{onSlot, newestOn, txnBy};
+ghost use Rattle.clash.specs.First.{Shaped, clashIn, FirstIn};
+ghost use Rattle.clash.specs.Group.{Known, Ground, cellFor, noted};
+use cells::inner::cell_at;
+use cells::inner::clear;
+use cells::inner::group_end;
+use cells::inner::page_at;
+use endian::inner::u16_at;
+use endian::inner::u64_at;
+use order::inner::is_change;
+use order::inner::larger;
+use order::inner::mark;
+use order::inner::state_at;
+use wal::FIRST;
+use wal::inner::place_before;
+use wal::inner::standing;
+
+// Whether the change at `at`, by transaction t, clashes with the newest one on its slot, which is by transaction u.
+fn clashes_with(log: &[u8], at: usize, t: u64, u: u64, hints: &[u32; 16384], high: u64) -> bool
+    requires { ⌜ (t ≡ said (now log) at .txn) × (isChange (said (now log) at) ≡ true) × (u ≡ newestOn (pageOf (said (now log) at)) (slotOf (said (now log) at)) 0 (before (now log) at)) ⌝ }
+    requires { ⌜ Hints (now log) at (now hints) ⌝ }
+    requires { ⌜ Highest (now log) at high ⌝ }
+    ensures { λ r. ⌜ r ≡ clashAfter (before (now (log .entry)) at) (said (now (log .entry)) at) ⌝ }
+{
+    if u == 0 {
+        return false;
+    }
+    if u == t {
+        return false;
+    }
+    state_at(log, at, hints, high, u) == 1
+}
+
+// The transaction of the change at the place that a cell holds; 0 for none.
+fn txn_by(log: &[u8], cell: u32) -> u64
+    requires { ⌜ (0 < cell → cell + 20 ≤ length (now log)) ⌝ }
+    ensures { λ r. ⌜ r ≡ txnBy (now (log .entry)) cell ⌝ }
+{
+    if cell == 0 {
+        return 0;
+    }
+    u64_at(log, cell as usize + 12)
+}
+
+// The cell of the slot that the entry at `at` changes, if its page is one of the group; else 131072.
+fn cell_for(log: &[u8], at: usize, kind: u8, starts: &[u32; 4097], lo: usize, hi: usize) -> usize
+    requires { ⌜ (kind ≡ said (now log) at .kind) × (isShaped (said (now log) at) ≡ true) × (lo ≤ hi) × (hi ≤ 4096) ⌝ }
+    requires { ⌜ Stands (now log) at ⌝ }
+    requires { ⌜ (isChange (said (now log) at) ≡ true → lo ≤ pageOf (said (now log) at) → pageOf (said (now log) at) < hi → getD (now starts) lo 0 ≤ getD (now starts) (pageOf (said (now log) at)) 0) ⌝ }
+    requires { ⌜ (isChange (said (now log) at) ≡ true → lo ≤ pageOf (said (now log) at) → pageOf (said (now log) at) < hi
+        → getD (now starts) (pageOf (said (now log) at)) 0 - getD (now starts) lo 0 + slotOf (said (now log) at) < 131072) ⌝ }
+    ensures { λ r. ⌜ r ≡ cellFor (now (starts .entry)) lo hi (said (now (log .entry)) at) ⌝ }
+{
+    if !is_change(kind) {
+        return 131072;
+    }
+    let i = page_at(log, at, hi);
+    if i < lo {
+        return 131072;
+    }
+    if i >= hi {
+        return 131072;
+    }
+    let k = u16_at(log, at + 35) as usize;
+    cell_at(starts, lo, i, k)
+}
+
+// Whether the entry at `at` clashes on a page of the group; if it does not, its cell takes its place.
+fn touch(
+    log: &[u8],
+    at: usize,
+    kind: u8,
+    t: u64,
+    starts: &[u32; 4097],
+    lo: usize,
+    hi: usize,
+    cells: &mut [u32],
+    hints: &[u32; 16384],
+    high: u64,
+) -> bool
+    requires { ⌜ (kind ≡ said (now log) at .kind) × (isShaped (said (now log) at) ≡ true) × (lo ≤ hi) × (hi ≤ 4096) ⌝ }
+    requires { ⌜ (t ≡ said (now log) at .txn) × (length (now log) ≤ 16777216) × (length (now cells) ≡ 131072) ⌝ }
+    requires { ⌜ Stands (now log) at ⌝ }
+    requires { ⌜ Known (now log) (now starts) (now cells) lo hi at ⌝ }
+    requires { ⌜ Hints (now log) at (now hints) ⌝ }
+    requires { ⌜ Highest (now log) at high ⌝ }
+    ensures { λ r. ⌜ r ≡ clashIn lo hi (now (log .entry)) at ⌝ }
+    ensures { λ r. ⌜ now (cells .exit) ≡ noted r (cellFor (now (starts .entry)) lo hi (said (now (log .entry)) at)) at (now (cells .entry)) ⌝ }
+{
+    let c = cell_for(log, at, kind, starts, lo, hi);
+    if c == 131072 {
+        return false;
+    }
+    let u = txn_by(log, cells[c]);
+    if clashes_with(log, at, t, u, hints, high) {
+        return true;
+    }
+    cells[c] = at as u32;
+    false
+}
+
+// The first clash before limit on a page of the group, or limit; over zeroed cells.
+fn clash_in(
+    log: &[u8],
+    limit: usize,
+    starts: &[u32; 4097],
+    lo: usize,
+    hi: usize,
+    cells: &mut [u32],
+) -> usize
+    requires { ⌜ (length (now log) ≤ 16777216) × (length (now cells) ≡ 131072) ⌝ }
+    requires { ⌜ Met (now log) limit ⌝ }
+    requires { ⌜ Ground (now log) (now starts) limit lo hi ⌝ }
+    requires { ⌜ Blank (now cells) ⌝ }
+    ensures { λ r. ⌜ FirstIn lo hi (now (log .entry)) limit r ⌝ }
+{
+    let mut hints = [32u32; 16384];
+    let mut at = FIRST;
+    let mut high: u64 = 0;
+    while at < limit {
+        let v = standing(log, at);
+        if touch(
+            log,
+            at,
+            v.kind,
+            v.txn.0,
+            starts,
+            lo,
+            hi,
+            cells,
+            &hints,
+            high,
+        ) {
+            return at;
+        }
+        let next = at + v.length;
+        mark(log, at, next, v.txn.0, &mut hints);
+        high = larger(high, v.txn.0);
+        at = next;
+    }
+    limit
+}
+
+// Whether the entry at place changes this slot of this page.
+fn on_slot(log: &[u8], place: usize, page: u64, slot: u16) -> bool
+    requires { ⌜ Stands (now log) place ⌝ }
+    requires { ⌜ isShaped (said (now log) place) ≡ true ⌝ }
+    ensures { λ r. ⌜ r ≡ onSlot page slot (said (now (log .entry)) place) ⌝ }
+{
+    let kind = log[place + 20];
+    if !is_change(kind) {
+        return false;
+    }
+    if u64_at(log, place + 27) != page {
+        return false;
+    }
+    slot == u16_at(log, place + 35)
+}
+
+// The transaction of the newest change on a slot before place, by stepping backward; 0 for none.
+fn newest_back(log: &[u8], place: usize, page: u64, slot: u16) -> u64
+    requires { ⌜ Met (now log) place ⌝ }
+    requires { ⌜ Shaped (now log) place ⌝ }
+    ensures { λ r. ⌜ r ≡ newestOn page slot 0 (before (now (log .entry)) place) ⌝ }
+{
+    let mut p = place;
+    loop {
+        if p <= FIRST {
+            return 0;
+        }
+        p = place_before(log, p);
+        if on_slot(log, p, page, slot) {
+            return u64_at(log, p + 12);
+        }
+    }
+}
+
+// Whether the entry at `at` clashes on a page that is none of the first n.
+fn touch_beyond(
+    log: &[u8],
+    at: usize,
+    kind: u8,
+    t: u64,
+    n: usize,
+    hints: &[u32; 16384],
+    high: u64,
+) -> bool
+    requires { ⌜ (kind ≡ said (now log) at .kind) × (t ≡ said (now log) at .txn) × (isShaped (said (now log) at) ≡ true) ⌝ }
+    requires { ⌜ Met (now log) at ⌝ }
+    requires { ⌜ Stands (now log) at ⌝ }
+    requires { ⌜ Shaped (now log) at ⌝ }
+    requires { ⌜ Hints (now log) at (now hints) ⌝ }
+    requires { ⌜ Highest (now log) at high ⌝ }
+    ensures { λ r. ⌜ r ≡ clashIn n (2 ^ 64) (now (log .entry)) at ⌝ }
+{
+    if !is_change(kind) {
+        return false;
+    }
+    let page = u64_at(log, at + 27);
+    if page < n as u64 {
+        return false;
+    }
+    let u = newest_back(log, at, page, u16_at(log, at + 35));
+    clashes_with(log, at, t, u, hints, high)
+}
+
+// The first clash before limit on a page that is none of the first n, or limit.
+fn clash_beyond(log: &[u8], limit: usize, n: usize) -> usize
+    requires { ⌜ length (now log) ≤ 16777216 ⌝ }
+    requires { ⌜ Met (now log) limit ⌝ }
+    requires { ⌜ Shaped (now log) limit ⌝ }
+    ensures { λ r. ⌜ FirstIn n (2 ^ 64) (now (log .entry)) limit r ⌝ }
+{
+    let mut hints = [32u32; 16384];
+    let mut at = FIRST;
+    let mut high: u64 = 0;
+    while at < limit {
+        let v = standing(log, at);
+        if touch_beyond(log, at, v.kind, v.txn.0, n, &hints, high) {
+            return at;
+        }
+        let next = at + v.length;
+        mark(log, at, next, v.txn.0, &mut hints);
+        high = larger(high, v.txn.0);
+        at = next;
+    }
+    limit
+}
+
+// The first clash before stop, or stop: group by group of the first n pages, then the others, of which the first change is at beyond.
+pub fn clash(
+    log: &[u8],
+    stop: usize,
+    n: usize,
+    beyond: usize,
+    starts: &[u32; 4097],
+    cells: &mut [u32; 131072],
+) -> usize
+    requires { ⌜ (n ≤ 4096) × (length (now log) ≤ 16777216) ⌝ }
+    requires { ⌜ Met (now log) stop ⌝ }
+    requires { ⌜ Sound (now log) stop ⌝ }
+    requires { ⌜ Starts (before (now log) stop) n (now starts) ⌝ }
+    requires { ⌜ FirstBeyond (now log) stop n beyond ⌝ }
+    ensures { λ r. ⌜ FirstIn 0 (2 ^ 64) (now (log .entry)) stop r ⌝ }
+{
+    let mut limit = stop;
+    let mut lo = 0;
+    while lo < n {
+        let hi = group_end(starts, lo, n);
+        clear(cells);
+        limit = clash_in(log, limit, starts, lo, hi, &mut cells[..]);
+        lo = hi;
+    }
+    if beyond < limit {
+        return clash_beyond(log, limit, n);
+    }
+    limit
+}

@@ -1,0 +1,2 @@
+// The rule on clashes.
+pub mod inner;

@@ -1,0 +1,85 @@
+-- The register over runs of bytes: pieces give the whole, and a run goes in as one number.
+-- Assumes nothing.
+use mathlib.Core.Path.{_≡_, refl, sym, ap, ap₂, _∙_}
+use mathlib.Core.List.{List, [], _∷_, _++_, append-nil}
+use Prim.Native.Nat.{ℕ, zero, suc, _+_, _*_, _-_, _/_, _^_, _≤_, _<_}
+use native.Mathlib.Nat.{add-suc}
+use native.Mathlib.Numerals.{add-one}
+use native.Mathlib.Omega.{arith}
+use lib.Bits.{bitXor, xor-comm, xor-zero-r, xor-shifted, xor-lt}
+use lib.ListN.{length, getD, take, drop, take-append-drop, length-drop, drop-of-length-le}
+use lib.Seq.{drop-cons, length-take-le, drop-drop, take-all}
+use Rattle.endian.specs.Numbers.{Bytes, numberOf, numberAt}
+use Rattle.endian.proofs.Bytes.{bytes-take, bytes-drop}
+use Rattle.crc32c.specs.Crc.{poly, shift, shifts, fed, start, finished, crc32c}
+use Rattle.crc32c.proofs.Xor.{xor-assoc}
+use Rattle.crc32c.proofs.Shifts.{shifts-xor, shifts-out, shifts-add}
+
+-- pieces give the whole
+pub fed-append : (c : ℕ) (bs cs : List ℕ) → fed c (bs ++ cs) ≡ fed (fed c bs) cs
+unfolding fed
+fed-append c [] cs = refl
+fed-append c (b ∷ bs) cs = fed-append _ bs cs
+
+pub crc-append : (bs cs : List ℕ) → crc32c (bs ++ cs) ≡ finished (fed (fed start bs) cs)
+unfolding crc32c
+crc-append bs cs = ap finished (fed-append start bs cs)
+
+-- a run of bytes as one number, of any digits
+unfoldable pub word : List ℕ → ℕ
+word [] = 0
+word (b ∷ bs) = bitXor (word bs * 256) b
+
+pub word-number : {bs : List ℕ} → Bytes bs → word bs ≡ numberOf bs
+unfolding word numberOf
+word-number {bs = []} h = refl
+word-number {bs = b ∷ bs} h =
+    let t : Bytes bs = record { at = λ i. h .at (suc i) } in
+    xor-shifted (word bs) 8 b (h .at 0) ∙ omega (arith, word-number t)
+
+-- a run of bytes goes in as one number
+pub run : (bs rest : List ℕ) (c : ℕ) → fed c (bs ++ rest) ≡ fed (shifts (8 * length bs) (bitXor c (word bs))) rest
+unfolding fed word shifts
+run [] rest c = ap (λ (x : ℕ). fed x rest) (sym (xor-zero-r c))
+run (b ∷ bs) rest c = run bs rest _ ∙ ap (λ (x : ℕ). fed x rest) (in-one b bs c)
+  where
+    in-one : (b : ℕ) (bs : List ℕ) (c : ℕ)
+        → shifts (8 * length bs) (bitXor (shifts 8 (bitXor c b)) (word bs)) ≡ shifts (8 * suc (length bs)) (bitXor c (bitXor (word bs * 256) b))
+    in-one b bs c =
+        let e : 8 + 8 * length bs ≡ 8 * suc (length bs) = omega arith in
+        ap (λ (y : ℕ). shifts (8 * length bs) (bitXor (shifts 8 (bitXor c b)) y)) (sym (shifts-out 8 (word bs)))
+        ∙ ap (shifts (8 * length bs)) (sym (shifts-xor 8 (bitXor c b) (word bs * 256)))
+        ∙ ap (λ (y : ℕ). shifts (8 * length bs) (shifts 8 y)) (xor-assoc c b (word bs * 256) ∙ ap (bitXor c) (xor-comm b (word bs * 256)))
+        ∙ sym (shifts-add 8 (8 * length bs) (bitXor c (bitXor (word bs * 256) b)))
+        ∙ ap (λ (k : ℕ). shifts k (bitXor c (bitXor (word bs * 256) b))) e
+
+-- the w bytes at i go in as their number, whatever w
+pub run-at : (w i c : ℕ) (s : List ℕ) → Bytes s → i + w ≤ length s
+    → fed (shifts (8 * w) (bitXor c (numberAt w i s))) (drop (i + w) s) ≡ fed c (drop i s)
+unfolding numberAt
+run-at w i c s b h =
+    let e : length (take w (drop i s)) ≡ w = length-take-le w (drop i s) (simp length-drop (omega arith)) in
+    sym (ap (fed c) (sym (take-append-drop w (drop i s)))
+    ∙ run (take w (drop i s)) (drop w (drop i s)) c
+    ∙ ap₂ (λ (n x : ℕ). fed (shifts (8 * n) (bitXor c x)) (drop w (drop i s))) e (word-number (bytes-take w (bytes-drop i b)))
+    ∙ ap (fed (shifts (8 * w) (bitXor c (numberOf (take w (drop i s)))))) (drop-drop w i s))
+
+-- the byte at i
+pub byte-at : (i c : ℕ) (s : List ℕ) → i < length s → fed (shifts 8 (bitXor c (getD s i 0))) (drop (i + 1) s) ≡ fed c (drop i s)
+unfolding fed
+byte-at i c s h = sym (rw (add-one, drop-cons s i 0))
+
+-- at the end
+pub at-end : (i c : ℕ) (s : List ℕ) → length s ≤ i → c ≡ fed c (drop i s)
+unfolding fed
+at-end i c s h = rw (drop-of-length-le s h)
+
+-- a piece of n bytes at i, and then the rest
+pub piece : (s : List ℕ) (i n c r : ℕ) → r ≡ fed c (take n (drop i s)) → fed r (drop (i + n) s) ≡ fed c (drop i s)
+piece s i n c r e =
+    ap₂ fed e (sym (drop-drop n i s)) ∙ sym (fed-append c (take n (drop i s)) (drop n (drop i s)))
+    ∙ ap (fed c) (take-append-drop n (drop i s))
+
+-- `&s[i..]` is the rest
+pub rest : (s : List ℕ) (i c : ℕ) → fed c (take (length s - i) (drop i s)) ≡ fed c (drop i s)
+rest s i c = ap (fed c) (take-all (length s - i) (drop i s) (simp length-drop (omega arith)))

@@ -1,0 +1,66 @@
+// How a transaction ends, looked up forward from one of its entries, with answers kept; for callers that know the log to be accepted.
+ghost use mathlib.Core.Path.{_≡_};
+ghost use mathlib.Core.Bool.{true};
+ghost use Prim.Native.Nat.{ℕ, _+_, _/_, _≤_, _<_};
+ghost use lib.ListN.{length};
+ghost use Rattle.endian.specs.Numbers.{numberAt};
+ghost use Rattle.wal.specs.Walk.{entries, endOf};
+ghost use Rattle.wal.specs.Prefix.{said, Stands, Met, onward};
+ghost use Rattle.rules.specs.Recover.{outcomeOf};
+ghost use Rattle.fates.specs.Fate.{Ordered, endingOf, Kept, Memo};
+use endian::inner::u64_at;
+use wal::inner::standing;
+
+// Looks forward from a place for the end of transaction t.
+fn look(log: &[u8], from: usize, end: usize, t: u64) -> u64
+    requires { ⌜ Met (now log) from ⌝ }
+    requires { ⌜ endOf (now log) ≡ end ⌝ }
+    ensures { λ r. ⌜ r ≡ endingOf t (onward (now (log .entry)) from) ⌝ }
+{
+    let mut at = from;
+    while at < end {
+        let e = standing(log, at);
+        let u = e.txn;
+        if u.0 == t {
+            if e.kind == 2 {
+                return 1;
+            }
+            if e.kind == 3 {
+                return 2;
+            }
+        }
+        at = at + e.length;
+    }
+    0
+}
+
+// Whether the kept answer v is on transaction t.
+fn kept(log: &[u8], v: u32, t: u64) -> bool
+    requires { ⌜ Kept (now log) v ⌝ }
+    ensures { λ r. ⌜ (r ≡ true → (0 < v) × (numberAt 8 (v / 4 + 12) (now (log .entry)) ≡ t)) ⌝ }
+{
+    if v == 0 {
+        return false;
+    }
+    u64_at(log, (v / 4 + 12) as usize) == t
+}
+
+// The outcome of transaction t, of which an entry stands at place: 1 committed, 2 rolled back, 0 neither. Answers are kept in memo.
+pub fn fate(log: &[u8], place: usize, t: u64, end: usize, memo: &mut [u32; 16384]) -> u64
+    requires { ⌜ Met (now log) place ⌝ }
+    requires { ⌜ Stands (now log) place ⌝ }
+    requires { ⌜ Ordered (now log) ⌝ }
+    requires { ⌜ Memo (now log) (now memo) ⌝ }
+    requires { ⌜ (endOf (now log) ≡ end) × (t ≡ said (now log) place .txn) × (0 < t) × (length (now log) ≤ 16777216) ⌝ }
+    ensures { λ r. ⌜ r ≡ outcomeOf (entries (now (log .entry))) t ⌝ }
+    ensures { λ _. ⌜ Memo (now (log .entry)) (now (memo .exit)) ⌝ }
+{
+    let i = (t % 16384) as usize;
+    let v = memo[i];
+    if kept(log, v, t) {
+        return (v % 4) as u64;
+    }
+    let r = look(log, place, end, t);
+    memo[i] = (4 * place + r as usize) as u32;
+    r
+}

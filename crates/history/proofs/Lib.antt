@@ -1,0 +1,3 @@
+pub mod OneSlot
+pub mod Exact
+pub mod Demand3

@@ -1,0 +1,50 @@
+-- Demand 3: from pages of any moments of an honest history and any cut of its log, accepted recovery gives exactly what the committed transactions
+-- made; and recovery interrupted and run again, from the same or a longer cut, ends in the same bytes.
+use Prim.Native.Nat.{ℕ, _≤_, _<_}
+use mathlib.Core.Path.{_≡_}
+use mathlib.Core.Logic.{_⊎_}
+use mathlib.Core.List.{List}
+use lib.ListN.{length, take, drop}
+use Rattle.endian.specs.Numbers.{Bytes}
+use Rattle.wal.specs.Walk.{entries}
+use Rattle.page.specs.Layout.{dataType, pagesIn, pageAt, typeOf, slotAt}
+use Rattle.rules.specs.Mend.{topOf}
+use Rattle.rules.specs.Recover.{recoverOf}
+use Rattle.rules.specs.declared.Record.{Record}
+use Rattle.history.specs.History.{Step, loggedIn, run, Honest, start, ledger}
+
+-- An honest history: its starting pages, its steps, and its log, whose entries are those that the steps logged.
+pub record History : Type 0 where
+  pub pages : List ℕ
+  pub steps : List Step
+  pub log : List ℕ
+  pub honest : Honest (start pages) steps
+  pub inLog : entries log ≡ loggedIn steps
+
+-- The pages P, each as it stood at a moment of the history of its own: moment i is how many steps had been made. Nothing is asked of pages that are not of type 1, nothing of
+-- layout, flags, item counts, LSNs and checksums, and not that the pages are good: acceptance shows that.
+pub record Stands (h : History) (moment : ℕ → ℕ) (P : List ℕ) : Type 0 where
+  pub slots : (i k : ℕ) → i < pagesIn P → typeOf (pageAt i P) ≡ dataType → slotAt (pageAt i P) k ≡ run (start (h .pages)) (take (moment i) (h .steps)) .slot i k
+
+-- The cut, the first c bytes of the log, has each change that a page has felt by its moment: what was logged by then and is not in the cut is no change on that page.
+pub record HasFelt (h : History) (moment : ℕ → ℕ) (P : List ℕ) (c : ℕ) : Type 0 where
+  pub felt : (i : ℕ) → i < pagesIn P → typeOf (pageAt i P) ≡ dataType → topOf i (drop (length (entries (take c (h .log)))) (loggedIn (take (moment i) (h .steps)))) ≡ 0
+
+-- The pages Q that a power failure in a run leaves: each wholly as lent or wholly as the full run left it, in any mixture. (A refused run left all as lent.)
+pub record Mixed (lent after Q : List ℕ) : Type 0 where
+  pub size : length Q ≡ length lent
+  pub each : (i : ℕ) → i < pagesIn lent → (pageAt i Q ≡ pageAt i lent) ⊎ (pageAt i Q ≡ pageAt i after)
+
+pub record Demand3 (h : History) : Type 0 where
+  -- What recovery leaves in each slot of each page of type 1 is what the ledger of the cut says.
+  pub exact : (magic floor : ℕ) (moment : ℕ → ℕ) (P : List ℕ) (c : ℕ) (table : List Record) → Stands h moment P → HasFelt h moment P c
+      → recoverOf magic floor P (take c (h .log)) table .answer .number ≡ 0
+      → (i k : ℕ) → i < pagesIn P → typeOf (pageAt i P) ≡ dataType
+      → slotAt (pageAt i (recoverOf magic floor P (take c (h .log)) table .pages)) k ≡ ledger (h .pages) (entries (take c (h .log))) i k
+  -- Where the run from a cut c₂ is accepted, it is accepted again, with the same answer and the same bytes, after a run from a cut c₁ that is no longer was stopped anywhere
+  -- or refused. The runs take the same magic and as many records. The buffers are bytes.
+  pub repeats : (magic floor : ℕ) (P : List ℕ) (c₁ c₂ : ℕ) (T₁ T₂ T₃ : List Record) → Bytes P → Bytes (h .log) → c₁ ≤ c₂ → length T₁ ≡ length T₂ → length T₃ ≡ length T₂
+      → recoverOf magic floor P (take c₂ (h .log)) T₂ .answer .number ≡ 0
+      → (Q : List ℕ) → Mixed P (recoverOf magic floor P (take c₁ (h .log)) T₁ .pages) Q
+      → (recoverOf magic floor Q (take c₂ (h .log)) T₃ .answer ≡ recoverOf magic floor P (take c₂ (h .log)) T₂ .answer)
+      × (recoverOf magic floor Q (take c₂ (h .log)) T₃ .pages ≡ recoverOf magic floor P (take c₂ (h .log)) T₂ .pages)

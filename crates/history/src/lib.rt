@@ -1,0 +1,1 @@
+// Honest histories and demand 3, as definitions and theorems: there is no code here.

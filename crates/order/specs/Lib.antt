@@ -1,0 +1,5 @@
+pub mod State
+pub mod Clash
+pub mod Hints
+pub mod First
+pub mod Walking

@@ -1,0 +1,17 @@
+pub mod Fields
+pub mod Slots
+pub mod Tables
+pub mod Goodness
+pub mod Writing
+pub mod Pasting
+pub mod Packing
+pub mod Parts
+pub mod Listing
+pub mod Visibility
+pub mod Mapping
+pub mod Picks
+pub mod Reading
+pub mod SlotLaws
+pub mod FaultLaws
+pub mod Verdicts
+pub mod FaultCases

@@ -1,0 +1,101 @@
+-- The first fault of a page, in this order: magic or type, id, checksum; of a Data page the header's fields, then the slots. And the verdict on a page area (paper 01, Pages, Numbers given back).
+use Prim.Native.Nat.{ℕ, zero, suc, _+_, _*_, _%_, max, min}
+use mathlib.Core.List.{List}
+use mathlib.Core.Bool.{Bool, true, false}
+use lib.ListN.{length}
+use lib.Dec.{ltb, leb, eqb}
+use Rattle.endian.specs.Pick.{pick}
+use Rattle.endian.specs.Numbers.{part}
+use Rattle.crc32c.specs.Crc.{crc32c}
+use Rattle.page.specs.Layout.{pageBytes, bodyBytes, pageLimit, slotLimit, rowHead, dataType, lastType, pagesIn, pageAt, magicOf, typeOf, countOf, crcOf, idOf, freeStartOf, freeEndOf, bodyOf, slotOff, slotLen, deletedOf}
+use Rattle.page.specs.declared.Fault.{Fault}
+use Rattle.page.specs.declared.Fault.the-variants.{Sound, MagicOrType, Id, Checksum, Count, FreeStart, FreeEnd, Slot}
+use Rattle.page.specs.declared.Verdict.{Verdict}
+
+-- ---- a slot
+
+-- the n bytes at o of a body are a tuple that lies between `end` and `top`
+unfoldable pub isTuple : List ℕ → ℕ → ℕ → ℕ → ℕ → Bool
+isTuple b end top o n =
+    pick (leb rowHead n) (pick (leb end o) (pick (leb (o + n) top) (leb (deletedOf (part o n b)) 1) false) false) false
+
+-- slot k holds a tuple that lies between `end` and the body's end
+unfoldable pub isFilled : List ℕ → ℕ → ℕ → Bool
+isFilled b end k = isTuple b end bodyBytes (slotOff b k) (slotLen b k)
+
+unfoldable pub isEmpty : List ℕ → ℕ → Bool
+isEmpty b k = pick (eqb (slotOff b k) 0) (eqb (slotLen b k) 0) false
+
+-- the tuples of slots j and k share a byte
+unfoldable pub share : List ℕ → ℕ → ℕ → Bool
+share b j k = ltb (max (slotOff b j) (slotOff b k)) (min (slotOff b j + slotLen b j) (slotOff b k + slotLen b k))
+
+-- slot k shares a byte with one of the first n
+unfoldable pub sharesEarlier : List ℕ → ℕ → ℕ → Bool
+sharesEarlier b k zero = false
+sharesEarlier b k (suc n) = pick (share b n k) true (sharesEarlier b k n)
+
+-- slot k is at fault by itself or shares a byte with an earlier one
+unfoldable pub slotFaulty : List ℕ → ℕ → ℕ → Bool
+slotFaulty b end k = pick (pick (isEmpty b k) true (isFilled b end k)) (sharesEarlier b k k) true
+
+-- the first slot at fault among the n from k on
+unfoldable pub slotsFault : List ℕ → ℕ → ℕ → ℕ → Fault
+slotsFault b end zero k = Sound
+slotsFault b end (suc n) k = pick (slotFaulty b end k) (Slot k) (slotsFault b end n (suc k))
+
+-- ---- a page
+
+unfoldable pub dataFault : List ℕ → Fault
+dataFault p =
+    pick (ltb slotLimit (countOf p)) Count
+    (pick (eqb (freeStartOf p) (4 * countOf p))
+    (pick (leb (freeStartOf p) (freeEndOf p))
+    (pick (leb (freeEndOf p) bodyBytes)
+    (slotsFault (bodyOf p) (freeEndOf p) (countOf p) 0)
+    FreeEnd)
+    FreeEnd)
+    FreeStart)
+
+unfoldable pub faultOf : ℕ → ℕ → List ℕ → Fault
+faultOf magic index p =
+    pick (eqb (magicOf p) magic)
+    (pick (leb (typeOf p) lastType)
+    (pick (eqb (idOf p) index)
+    (pick (eqb (crcOf p) (crc32c (bodyOf p)))
+    (pick (eqb (typeOf p) dataType) (dataFault p) Sound)
+    Checksum)
+    Id)
+    MagicOrType)
+    MagicOrType
+
+-- ---- a page area
+
+abbrev pub verdict : ℕ → ℕ → Verdict
+verdict n at = record { number = n; place = at }
+
+abbrev pub accepted : Verdict
+accepted = verdict 0 0
+
+-- the refusal that a fault of the page at an index is, or what comes after it
+abbrev pub judged : Fault → ℕ → Verdict → Verdict
+judged Sound i later = later
+judged MagicOrType i later = verdict 11 i
+judged Id i later = verdict 11 i
+judged Checksum i later = verdict 11 i
+judged Count i later = verdict 11 i
+judged FreeStart i later = verdict 11 i
+judged FreeEnd i later = verdict 11 i
+judged (Slot k) i later = verdict 11 i
+
+-- the first of the n pages from i on that is not good
+unfoldable pub firstBad : ℕ → List ℕ → ℕ → ℕ → Verdict
+firstBad magic s zero i = accepted
+firstBad magic s (suc n) i = judged (faultOf magic i (pageAt i s)) i (firstBad magic s n (suc i))
+
+-- refusal 1: page bytes no multiple of a page's, or too many pages
+unfoldable pub sizeWrong : List ℕ → Bool
+sizeWrong s = pick (eqb (length s % pageBytes) 0) (ltb pageLimit (pagesIn s)) true
+
+unfoldable pub verdictOf : ℕ → List ℕ → Verdict
+verdictOf magic s = pick (sizeWrong s) (verdict 1 0) (firstBad magic s (pagesIn s) 0)

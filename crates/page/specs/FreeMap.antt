@@ -1,0 +1,50 @@
+-- The map of free pages (paper 01, Numbers given back).
+use Prim.Native.Nat.{ℕ, zero, suc, _+_, _*_, _/_}
+use mathlib.Core.List.{List, [], _∷_, _++_}
+use lib.ListN.{length, drop}
+use lib.Dec.{ltb, eqb}
+use Rattle.endian.specs.Pick.{pick}
+use Rattle.page.specs.Layout.{freeType, pagesIn, pageAt, typeOf}
+use Rattle.page.specs.Fault.{verdict, verdictOf}
+use Rattle.page.specs.declared.Verdict.{Verdict}
+
+-- 1 where page i is lent and has type 4, else 0
+unfoldable pub freeBit : List ℕ → ℕ → ℕ
+freeBit s i = pick (ltb i (pagesIn s)) (pick (eqb (typeOf (pageAt i s)) freeType) 1 0) 0
+
+-- the n bits from page i on as one number, the lowest first
+unfoldable pub bits : List ℕ → ℕ → ℕ → ℕ
+bits s zero i = 0
+bits s (suc n) i = freeBit s i + 2 * bits s n (suc i)
+
+-- n bytes of the map, from page i on
+unfoldable pub mapBytes : List ℕ → ℕ → ℕ → List ℕ
+mapBytes s zero i = []
+mapBytes s (suc n) i = bits s 8 i ∷ mapBytes s n (i + 8)
+
+-- a bit for each page, in whole bytes
+abbrev pub mapLength : List ℕ → ℕ
+mapLength s = (pagesIn s + 7) / 8
+
+-- how many of the n pages from i on are free
+unfoldable pub freePages : List ℕ → ℕ → ℕ → ℕ
+freePages s zero i = 0
+freePages s (suc n) i = freeBit s i + freePages s n (suc i)
+
+-- refusals 1 and 11 as verification, then 16 where the map is too short
+unfoldable pub mapVerdict : ℕ → List ℕ → List ℕ → Verdict
+mapVerdict magic s map =
+    pick (eqb (verdictOf magic s .number) 0)
+    (pick (ltb (length map) (mapLength s)) (verdict 16 0) (verdict 0 0))
+    (verdictOf magic s)
+
+-- what the lent map then holds: the needed bytes and its later ones as they were; refused, all as lent
+unfoldable pub mapAfter : ℕ → List ℕ → List ℕ → List ℕ
+mapAfter magic s map =
+    pick (eqb (mapVerdict magic s map .number) 0)
+    (mapBytes s (mapLength s) 0 ++ drop (mapLength s) map)
+    map
+
+-- the count that is given back; refused, 0
+unfoldable pub freeCount : ℕ → List ℕ → List ℕ → ℕ
+freeCount magic s map = pick (eqb (mapVerdict magic s map .number) 0) (freePages s (pagesIn s) 0) 0

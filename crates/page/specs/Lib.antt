@@ -1,0 +1,7 @@
+pub mod Layout
+pub mod Packed
+pub mod Good
+pub mod Fault
+pub mod Rows
+pub mod FreeMap
+pub mod Writer

@@ -1,0 +1,263 @@
+// What other crates call with a `requires`: a page's fields, its first fault, and the packed page writer.
+ghost use mathlib.Core.Path.{_≡_};
+ghost use Prim.Native.Nat.{ℕ, _+_, _*_, _-_, _≤_, _<_};
+ghost use lib.ListN.{length};
+ghost use lib.Seq.{paste};
+ghost use Rattle.crc32c.specs.Crc.{crc32c as crcOfBytes};
+ghost use Rattle.crc32c.specs.Tables.{Tables};
+ghost use Rattle.page.specs.Layout.{pageBytes, bodyBytes, slotLimit, pagesIn, magicOf, typeOf, countOf, idOf, lsnOf, bodyOf, slotOff, slotLen};
+ghost use Rattle.page.specs.Fault.{dataFault, faultOf, firstBad, verdictOf};
+ghost use Rattle.endian.specs.Pick.{pick};
+ghost use Rattle.page.specs.Packed.{packed};
+ghost use Rattle.page.specs.Writer.{withSlot, headOf, sealed, givenAll, partsFit};
+use crate::BODY_BYTES;
+use crate::DATA_TYPE;
+use crate::Fault;
+use crate::HEAD_BYTES;
+use crate::LAST_TYPE;
+use crate::PAGE_BYTES;
+use crate::PAGE_LIMIT;
+use crate::PageHead;
+use crate::SLOT_LIMIT;
+use crate::Verdict;
+use crate::faults::slots_fault;
+use crate::writer::copy_in;
+use crate::writer::off_of;
+use crate::writer::parts_fit;
+use crate::writer::put_back;
+use crate::writer::put_front;
+use crate::writer::put_parts;
+use crc32c::inner::crc32c;
+use endian::Lsn;
+use endian::PageNumber;
+use endian::inner::put_u16;
+use endian::inner::u16_at;
+use endian::inner::u32_at;
+use endian::inner::u64_at;
+
+// Where in a page the offset and the length of slot 0 stand; a slot has four bytes.
+const OFFSETS_AT: usize = HEAD_BYTES;
+
+const LENGTHS_AT: usize = HEAD_BYTES + 2;
+
+pub fn magic(page: &[u8]) -> u64
+    requires { ⌜ length (now page) ≡ pageBytes ⌝ }
+    ensures { λ r. ⌜ r ≡ magicOf (now (page .entry)) ⌝ }
+{
+    u64_at(page, 0)
+}
+
+// The page's type.
+pub fn kind(page: &[u8]) -> u8
+    requires { ⌜ length (now page) ≡ pageBytes ⌝ }
+    ensures { λ r. ⌜ r ≡ typeOf (now (page .entry)) ⌝ }
+{
+    page[8]
+}
+
+pub fn count(page: &[u8]) -> usize
+    requires { ⌜ length (now page) ≡ pageBytes ⌝ }
+    ensures { λ r. ⌜ (r ≡ countOf (now (page .entry))) × (r < 65536) ⌝ }
+{
+    u16_at(page, 10) as usize
+}
+
+pub fn id(page: &[u8]) -> PageNumber
+    requires { ⌜ length (now page) ≡ pageBytes ⌝ }
+    ensures { λ r. ⌜ r .0 ≡ idOf (now (page .entry)) ⌝ }
+{
+    PageNumber(u64_at(page, 16))
+}
+
+pub fn lsn(page: &[u8]) -> Lsn
+    requires { ⌜ length (now page) ≡ pageBytes ⌝ }
+    ensures { λ r. ⌜ r .0 ≡ lsnOf (now (page .entry)) ⌝ }
+{
+    Lsn(u64_at(page, 24))
+}
+
+// Where the tuple of slot k starts, counted from the body's start.
+pub fn slot_off(page: &[u8], k: usize) -> usize
+    requires { ⌜ (length (now page) ≡ pageBytes) × (k < slotLimit) ⌝ }
+    ensures { λ r. ⌜ (r ≡ slotOff (bodyOf (now (page .entry))) k) × (r < 65536) ⌝ }
+{
+    u16_at(page, OFFSETS_AT + 4 * k) as usize
+}
+
+pub fn slot_len(page: &[u8], k: usize) -> usize
+    requires { ⌜ (length (now page) ≡ pageBytes) × (k < slotLimit) ⌝ }
+    ensures { λ r. ⌜ (r ≡ slotLen (bodyOf (now (page .entry))) k) × (r < 65536) ⌝ }
+{
+    u16_at(page, LENGTHS_AT + 4 * k) as usize
+}
+
+// The checksum of the page's body.
+fn checksum(t: &[u32; 2048], page: &[u8]) -> u32
+    requires { ⌜ Tables (now t) ⌝ }
+    requires { ⌜ length (now page) ≡ pageBytes ⌝ }
+    ensures { λ r. ⌜ r ≡ crcOfBytes (bodyOf (now (page .entry))) ⌝ }
+{
+    crc32c(t, &page[HEAD_BYTES..])
+}
+
+// The first fault of a Data page behind its checksum.
+fn data_fault(page: &[u8]) -> Fault
+    requires { ⌜ length (now page) ≡ pageBytes ⌝ }
+    ensures { λ r. ⌜ r ≡ dataFault (now (page .entry)) ⌝ }
+{
+    let n = count(page);
+    if SLOT_LIMIT < n {
+        return Fault::Count;
+    }
+    let start = u16_at(page, 32) as usize;
+    if start != 4 * n {
+        return Fault::FreeStart;
+    }
+    let end = u16_at(page, 34) as usize;
+    if end < start {
+        return Fault::FreeEnd;
+    }
+    if BODY_BYTES < end {
+        return Fault::FreeEnd;
+    }
+    slots_fault(page, end, n)
+}
+
+// The first fault of the page at an index.
+pub fn fault(t: &[u32; 2048], magic: u64, index: PageNumber, page: &[u8]) -> Fault
+    requires { ⌜ Tables (now t) ⌝ }
+    requires { ⌜ length (now page) ≡ pageBytes ⌝ }
+    ensures { λ r. ⌜ r ≡ faultOf magic (index .0) (now (page .entry)) ⌝ }
+{
+    if u64_at(page, 0) != magic {
+        return Fault::MagicOrType;
+    }
+    let k = kind(page);
+    if LAST_TYPE < k {
+        return Fault::MagicOrType;
+    }
+    if u64_at(page, 16) != index.0 {
+        return Fault::Id;
+    }
+    if u32_at(page, 12) != checksum(t, page) {
+        return Fault::Checksum;
+    }
+    if k != DATA_TYPE {
+        return Fault::Sound;
+    }
+    data_fault(page)
+}
+
+// The first of count pages that is not good.
+fn first_bad(t: &[u32; 2048], magic: u64, pages: &[u8], count: usize) -> Verdict
+    requires { ⌜ Tables (now t) ⌝ }
+    requires { ⌜ count ≡ pagesIn (now pages) ⌝ }
+    ensures { λ r. ⌜ r ≡ firstBad magic (now (pages .entry)) count 0 ⌝ }
+{
+    let mut i: usize = 0;
+    while i < count {
+        let a = i * PAGE_BYTES;
+        let e = a + PAGE_BYTES;
+        let f = fault(t, magic, PageNumber(i as u64), &pages[a..e]);
+        let Fault::Sound = f else {
+            return Verdict {
+                number: 11,
+                place: i as u64,
+            };
+        };
+        i += 1;
+    }
+    Verdict {
+        number: 0,
+        place: 0,
+    }
+}
+
+// Refusals 1 and 11, over lent tables.
+pub fn verify(t: &[u32; 2048], magic: u64, pages: &[u8]) -> Verdict
+    requires { ⌜ Tables (now t) ⌝ }
+    ensures { λ r. ⌜ r ≡ verdictOf magic (now (pages .entry)) ⌝ }
+{
+    let count = pages.len() / PAGE_BYTES;
+    if pages.len() % PAGE_BYTES != 0 {
+        return Verdict {
+            number: 1,
+            place: 0,
+        };
+    }
+    if PAGE_LIMIT < count {
+        return Verdict {
+            number: 1,
+            place: 0,
+        };
+    }
+    first_bad(t, magic, pages, count)
+}
+
+// Puts tuple into the working page as slot k: its four bytes, and the tuple so that it ends at top of the body. Gives back where it starts.
+pub fn put_slot(work: &mut [u8], k: usize, top: usize, tuple: &[u8]) -> usize
+    requires { ⌜ (length (now work) ≡ pageBytes) × (4 * k + 4 + length (now tuple) ≤ top) × (top ≤ bodyBytes) ⌝ }
+    ensures { λ r. ⌜ r ≡ top - length (now (tuple .entry)) ⌝ }
+    ensures { λ _. ⌜ now (work .exit) ≡ withSlot (now (work .entry)) k top (now (tuple .entry)) ⌝ }
+{
+    let n = tuple.len();
+    let start = top - n;
+    put_u16(work, OFFSETS_AT + 4 * k, off_of(n, start));
+    put_u16(work, LENGTHS_AT + 4 * k, n as u16);
+    copy_in(work, HEAD_BYTES + start, tuple);
+    start
+}
+
+// Writes the header of the working page over its body of count slots, whose tuples start at top.
+pub fn seal(
+    t: &[u32; 2048],
+    work: &mut [u8],
+    h: PageHead,
+    reserved: &[u8],
+    count: usize,
+    top: usize,
+)
+    requires { ⌜ Tables (now t) ⌝ }
+    requires { ⌜ (length (now work) ≡ pageBytes) × (length (now reserved) ≡ 28) × (count ≤ slotLimit) × (top ≤ bodyBytes) ⌝ }
+    ensures { λ _. ⌜ now (work .exit) ≡ sealed (headOf h (now (reserved .entry))) count top (bodyOf (now (work .entry))) ⌝ }
+{
+    let crc = checksum(t, work);
+    put_front(work, h.magic, h.kind, count, crc);
+    put_back(work, h.id, h.lsn, count, top, reserved);
+}
+
+// Copies the working page into its own stretch of the page area.
+pub fn store(pages: &mut [u8], index: usize, work: &[u8])
+    requires { ⌜ (index * pageBytes + pageBytes ≤ length (now pages)) × (length (now work) ≡ pageBytes) ⌝ }
+    ensures { λ _. ⌜ now (pages .exit) ≡ paste (now (pages .entry)) (index * pageBytes) (now (work .entry)) pageBytes ⌝ }
+{
+    let a = index * PAGE_BYTES;
+    let e = a + PAGE_BYTES;
+    copy_in(&mut pages[a..e], 0, work);
+}
+
+// Writes the packed page of tuples that are parts of one source, and says true; where they do not lie in it or do not fit a page, writes nothing.
+pub fn write_packed(
+    t: &[u32; 2048],
+    pages: &mut [u8],
+    index: usize,
+    h: PageHead,
+    reserved: &[u8],
+    source: &[u8],
+    places: &[u64],
+    lengths: &[u64],
+) -> bool
+    requires { ⌜ Tables (now t) ⌝ }
+    requires { ⌜ (index * pageBytes + pageBytes ≤ length (now pages)) × (length (now reserved) ≡ 28) ⌝ }
+    ensures { λ r. ⌜ r ≡ partsFit (length (now (source .entry))) (now (places .entry)) (now (lengths .entry)) bodyBytes ⌝ }
+    ensures { λ r. ⌜ now (pages .exit) ≡ pick r (paste (now (pages .entry)) (index * pageBytes) (packed (headOf h (now (reserved .entry))) (givenAll (now (source .entry)) (now (places .entry)) (now (lengths .entry)))) pageBytes) (now (pages .entry)) ⌝ }
+{
+    if !parts_fit(source.len() as u64, places, lengths) {
+        return false;
+    }
+    let mut work = [0u8; PAGE_BYTES];
+    let top = put_parts(&mut work, source, places, lengths);
+    seal(t, &mut work, h, reserved, lengths.len(), top);
+    store(pages, index, &work);
+    true
+}

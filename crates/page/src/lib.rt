@@ -1,0 +1,138 @@
+// The page format: the first fault of a page, slots, visible rows, the map of free pages, and the packed page.
+ghost use mathlib.Core.Path.{_≡_};
+ghost use Rattle.page.specs.Fault.{verdictOf};
+ghost use Rattle.page.specs.Rows.{nextRow};
+ghost use Rattle.page.specs.FreeMap.{mapVerdict, freeCount, mapAfter};
+use endian::Lsn;
+use endian::PageNumber;
+
+mod faults;
+pub mod inner;
+mod map;
+mod rows;
+mod writer;
+
+// The bytes of a page, of its header and of its body.
+pub const PAGE_BYTES: usize = 16384;
+
+pub const HEAD_BYTES: usize = 64;
+
+pub const BODY_BYTES: usize = 16320;
+
+// A page area of more pages is refused by 1.
+pub const PAGE_LIMIT: usize = 4096;
+
+// A body has room for no more slots.
+pub const SLOT_LIMIT: usize = 4080;
+
+// The bytes of a row header, the shortest tuple; and where in a page the deleted byte of a tuple at the body's start stands.
+pub const ROW_HEAD_BYTES: usize = 24;
+
+const DELETED_AT: usize = HEAD_BYTES + 16;
+
+// Page types.
+pub const DATA_TYPE: u8 = 1;
+
+pub const FREE_TYPE: u8 = 4;
+
+pub const LAST_TYPE: u8 = 6;
+
+// The first fault of a page, in the order in which they are looked for.
+pub enum Fault {
+    Sound,
+    MagicOrType,
+    Id,
+    Checksum,
+    Count,
+    FreeStart,
+    FreeEnd,
+    Slot(usize),
+}
+
+// A refusal's number and place; number 0 is none.
+pub struct Verdict {
+    pub number: u64,
+    pub place: u64,
+}
+
+// What a page's header holds besides what the writer works out, and its reserved bytes.
+pub struct PageHead {
+    pub magic: u64,
+    pub kind: u8,
+    pub id: PageNumber,
+    pub lsn: Lsn,
+}
+
+// A visible row.
+pub struct Row {
+    pub page: PageNumber,
+    pub slot: usize,
+    pub length: usize,
+}
+
+// What a listing step answers.
+pub enum NextRow {
+    Refused(Verdict),
+    At(Row),
+    NoMore,
+}
+
+// What making a free map answers: a refusal, or the count of free pages.
+pub struct FreeMap {
+    pub verdict: Verdict,
+    pub free: u64,
+}
+
+// Whether every page is good: refusals 1 and 11, the place of 11 the first bad page's index.
+pub fn verify(magic: u64, pages: &[u8]) -> Verdict
+    ensures { λ r. ⌜ r ≡ verdictOf magic (now (pages .entry)) ⌝ }
+{
+    let t = crc32c::inner::tables();
+    inner::verify(&t, magic, pages)
+}
+
+// The first visible row at or after a slot of a page. Refuses 1 and 11.
+pub fn next_visible(magic: u64, pages: &[u8], page: PageNumber, slot: usize) -> NextRow
+    ensures { λ r. ⌜ r ≡ nextRow magic (now (pages .entry)) (page .0) slot ⌝ }
+{
+    let v = verify(magic, pages);
+    if v.number != 0 {
+        return NextRow::Refused(v);
+    }
+    rows::row_from(pages, page.0 as usize, slot)
+}
+
+// Writes the map of free pages: bit i, lowest bit first, is 1 exactly if page i is free; needed bytes whole, spare bits 0. Refuses 1, 11 and 16, which
+// leave the map as it is.
+pub fn free_map(magic: u64, pages: &[u8], map: &mut [u8]) -> FreeMap
+    ensures { λ r. ⌜ r .verdict ≡ mapVerdict magic (now (pages .entry)) (now (map .entry)) ⌝ }
+    ensures { λ r. ⌜ r .free ≡ freeCount magic (now (pages .entry)) (now (map .entry)) ⌝ }
+    ensures { λ _. ⌜ now (map .exit) ≡ mapAfter magic (now (pages .entry)) (now (map .entry)) ⌝ }
+{
+    let v = verify(magic, pages);
+    if v.number != 0 {
+        return FreeMap {
+            verdict: v,
+            free: 0,
+        };
+    }
+    let count = pages.len() / PAGE_BYTES;
+    let need = (count + 7) / 8;
+    if map.len() < need {
+        return FreeMap {
+            verdict: Verdict {
+                number: 16,
+                place: 0,
+            },
+            free: 0,
+        };
+    }
+    map::fill(pages, map, need);
+    FreeMap {
+        verdict: Verdict {
+            number: 0,
+            place: 0,
+        },
+        free: map::free_pages(pages, count),
+    }
+}

@@ -1,0 +1,90 @@
+// The first visible row at or after a place, on pages that are good.
+ghost use mathlib.Core.Path.{_≡_};
+ghost use Prim.Native.Nat.{ℕ, _<_};
+ghost use lib.ListN.{length};
+ghost use Rattle.endian.specs.Pick.{pick};
+ghost use Rattle.page.specs.Layout.{pageBytes, dataType, pagesIn, pageAt, typeOf, countOf, slotAt};
+ghost use Rattle.page.specs.Good.{DataGood};
+ghost use Rattle.page.specs.Rows.{visible, slotRows, pageRows, visibleRows, firstAt};
+use crate::DATA_TYPE;
+use crate::DELETED_AT;
+use crate::NextRow;
+use crate::PAGE_BYTES;
+use crate::Row;
+use crate::inner::count;
+use crate::inner::kind;
+use crate::inner::slot_len;
+use crate::inner::slot_off;
+use endian::PageNumber;
+
+// The length of the tuple of slot k where it is a visible row, else 0.
+fn visible_len(page: &[u8], k: usize) -> usize
+    requires { ⌜ length (now page) ≡ pageBytes ⌝ }
+    requires { ⌜ DataGood (now page) ⌝ }
+    requires { ⌜ k < countOf (now page) ⌝ }
+    ensures { λ r. ⌜ r ≡ pick (visible (slotAt (now (page .entry)) k)) (length (slotAt (now (page .entry)) k)) 0 ⌝ }
+{
+    let n = slot_len(page, k);
+    if n == 0 {
+        return 0;
+    }
+    let o = slot_off(page, k);
+    if page[DELETED_AT + o] != 0 {
+        return 0;
+    }
+    n
+}
+
+// The first visible row of a Data page at or after a slot.
+fn row_of(page: &[u8], index: u64, slot: usize) -> NextRow
+    requires { ⌜ length (now page) ≡ pageBytes ⌝ }
+    requires { ⌜ DataGood (now page) ⌝ }
+    ensures { λ r. ⌜ r ≡ firstAt index slot (slotRows index (now (page .entry)) (countOf (now (page .entry))) 0) ⌝ }
+{
+    let n = count(page);
+    let mut k = slot;
+    while k < n {
+        let len = visible_len(page, k);
+        if len != 0 {
+            return NextRow::At(Row {
+                page: PageNumber(index),
+                slot: k,
+                length: len,
+            });
+        }
+        k += 1;
+    }
+    NextRow::NoMore
+}
+
+fn row_on(page: &[u8], index: u64, slot: usize) -> NextRow
+    requires { ⌜ length (now page) ≡ pageBytes ⌝ }
+    requires { ⌜ (typeOf (now page) ≡ dataType → DataGood (now page)) ⌝ }
+    ensures { λ r. ⌜ r ≡ firstAt index slot (pageRows index (now (page .entry))) ⌝ }
+{
+    if kind(page) != DATA_TYPE {
+        return NextRow::NoMore;
+    }
+    row_of(page, index, slot)
+}
+
+// The first visible row at or after a slot of the page at an index.
+pub fn row_from(pages: &[u8], index: usize, slot: usize) -> NextRow
+    requires { ⌜ ((i : ℕ) → i < pagesIn (now pages) → typeOf (pageAt i (now pages)) ≡ dataType → DataGood (pageAt i (now pages))) ⌝ }
+    ensures { λ r. ⌜ r ≡ firstAt index slot (visibleRows (now (pages .entry))) ⌝ }
+{
+    let n = pages.len() / PAGE_BYTES;
+    let mut i = index;
+    let mut k = slot;
+    while i < n {
+        let a = i * PAGE_BYTES;
+        let e = a + PAGE_BYTES;
+        let r = row_on(&pages[a..e], i as u64, k);
+        let NextRow::NoMore = r else {
+            return r;
+        };
+        i += 1;
+        k = 0;
+    }
+    NextRow::NoMore
+}

@@ -1,0 +1,1 @@
+// Recovery, and reading a row before it.

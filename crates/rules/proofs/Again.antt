@@ -1,0 +1,219 @@
+-- Recovery again: from pages of which each is as it was or as an earlier run, from a shorter cut, left it, the run from the longer cut is
+-- accepted as it was, and ends in the same bytes. Of any pages and any log.
+-- Assumes nothing.
+use mathlib.Core.Path.{_≡_, refl, sym, ap, ap₂, _∙_, subst}
+use mathlib.Core.Logic.{_⊎_, inl, inr, ⊎-elim}
+use mathlib.Core.Bool.{Bool, true, false}
+use Prim.Native.Nat.{ℕ, zero, suc, _+_, _*_, _/_, _%_, _^_, _≤_, _<_, max}
+use native.Mathlib.Omega.{arith}
+use mathlib.Core.List.{List, [], _∷_, _++_, append-nil}
+use lib.ListN.{length, take, drop}
+use lib.Dec.{eqb}
+use borrow.Author.Tests.{eq-eqb, eqb-true}
+use Rattle.endian.specs.Pick.{pick}
+use Rattle.endian.specs.Numbers.{Bytes}
+use Rattle.endian.proofs.Bytes.{bytes-take, bytes-drop}
+use Rattle.wal.specs.Entry.{Entry}
+use Rattle.wal.specs.Read.{headerFault, readAt, first}
+use Rattle.wal.specs.Walk.{entries, endOf}
+use Rattle.wal.proofs.Cuts.{cut-entries}
+use Rattle.page.specs.Layout.{pageBytes, bodyBytes, dataType, pagesIn, pageAt, typeOf, lsnOf}
+use Rattle.page.specs.Packed.{roomFor}
+use Rattle.page.specs.Good.{Good, TupleGood}
+use Rattle.page.specs.Fault.{verdict, faultOf, sizeWrong}
+use Rattle.page.specs.declared.Fault.the-variants.{Sound}
+use Rattle.page.specs.declared.Verdict.{Verdict}
+use Rattle.page.proofs.FaultLaws.{sound-good, good-sound}
+use Rattle.rules.specs.Shape.{isChange, isShaped, beforeOf, afterOf}
+use Rattle.rules.specs.Order.{lastLsn, fullAt, orderFrom, endVerdict, logVerdict, _then_}
+use Rattle.rules.specs.Mend.{committed, changes, topOf, lastOn, slotsFor, mendBy, mend, Accepts}
+use Rattle.rules.specs.Recover.{recoverVerdict, mendedFrom, done, refused, recoverBy, recoverOf, Recovered}
+use Rattle.rules.specs.declared.Record.{Record}
+use Rattle.rules.proofs.Slots.{Images, last-append}
+use Rattle.rules.proofs.Mended.{mend-again}
+use Rattle.rules.proofs.Accepted.{mend-accepted}
+use Rattle.rules.proofs.OrderLaws.{Every, every-map, InTurn, in-turn, all-shaped, last-bounds, last-small}
+use Rattle.rules.proofs.ImageLaws.{InRange, images-good, images-bytes, images-of}
+use Rattle.rules.proofs.Range.{in-range}
+use Rattle.rules.proofs.Verdicts.{Sane, Lent, Roomy, Accepted, is-accepted, accepted-is, then-zero}
+use Rattle.rules.proofs.Area.{page-mended, length-mended, mended-alike, page-length}
+
+which : (b : Bool) (x y : Recovered) (v : Verdict) → eqb (v .number) 0 ≡ b → y .answer .number ≡ v .number → pick b x y .answer .number ≡ 0 → v .number ≡ 0
+which true x y v e f k = eqb-true _ _ e
+which false x y v e f k = sym f ∙ k
+
+-- the two ways of recovery
+module _ (magic floor : ℕ) (pages log : List ℕ) (table : List Record) where
+  pub recover-done : recoverVerdict (fullAt (length table)) magic floor pages log .number ≡ 0
+      → (recoverOf magic floor pages log table .answer ≡ done (entries log) (endOf log) (pagesIn pages))
+      × (recoverOf magic floor pages log table .pages ≡ mendedFrom (entries log) pages (pagesIn pages) 0)
+  unfolding recoverOf
+  recover-done h = rw (eq-eqb _ _ h) (refl, refl)
+
+  -- a refusal leaves every buffer as it was
+  pub recover-refused : eqb (recoverVerdict (fullAt (length table)) magic floor pages log .number) 0 ≡ false
+      → recoverOf magic floor pages log table
+      ≡ record { answer = refused (recoverVerdict (fullAt (length table)) magic floor pages log); pages = pages; table = table }
+  unfolding recoverOf
+  recover-refused h = rw h
+
+  -- an answer of 0 comes from no refusal
+  pub recover-zero : recoverOf magic floor pages log table .answer .number ≡ 0 → recoverVerdict (fullAt (length table)) magic floor pages log .number ≡ 0
+  unfolding recoverOf
+  recover-zero h = which (eqb (v .number) 0) _ _ v refl refl h
+    where
+      v : Verdict
+      v = recoverVerdict (fullAt (length table)) magic floor pages log
+
+-- what an accepted log tells
+log-in-turn : (full : ℕ → Bool) (s : List ℕ) → logVerdict full s .number ≡ 0 → InTurn full [] (entries s)
+unfolding logVerdict
+log-in-turn full s h =
+    let a = then-zero (verdict (headerFault s) 0) _ h in
+    let b = then-zero (orderFrom full [] (entries s) first) (endVerdict (readAt s (endOf s)) (endOf s)) (a .1) in
+    in-turn full [] (entries s) first (b .0)
+
+page-accepts : (full : ℕ → Bool) (magic floor : ℕ) (pages log : List ℕ) → Accepted full magic floor pages log → (i : ℕ) → i < pagesIn pages
+    → Accepts (committed (entries log)) magic floor (lastLsn (entries log)) (entries log) i (pageAt i pages)
+page-accepts full magic floor pages log a i l =
+    record {
+      good = sound-good magic i (pageAt i pages) (page-length pages i l) (a .sane i l .sound);
+      lsnKnown = a .sane i l .lsnKnown;
+      isData = λ t. a .lent i t .isData;
+      hasRoom = a .roomy i l;
+    }
+
+module _ (full : ℕ → Bool) (magic floor : ℕ) (P L : List ℕ) (bP : Bytes P) (bL : Bytes L) (c₁ c₂ : ℕ) (le : c₁ ≤ c₂)
+    (A₁ : Accepted full magic floor P (take c₁ L)) (A₂ : Accepted full magic floor P (take c₂ L)) where
+  abbrev E₁ : List Entry
+  E₁ = entries (take c₁ L)
+
+  abbrev E₂ : List Entry
+  E₂ = entries (take c₂ L)
+
+  longer : (fs : List Entry) × (E₁ ++ fs ≡ E₂)
+  longer = cut-entries L c₁ c₂ le
+
+  shaped : Every (λ e. isShaped e ≡ true) E₁
+  shaped = all-shaped full [] E₁ (log-in-turn full (take c₁ L) (A₁ .logOk))
+
+  tuples : (i k : ℕ) → Images TupleGood (changes i k E₁)
+  tuples i k = images-of TupleGood i k E₁ (every-map (λ e. isShaped e ≡ true) (λ e. isChange e ≡ true → TupleGood (beforeOf e) × TupleGood (afterOf e)) (λ e s c. images-good e c s) E₁ shaped)
+
+  bytes : (i k : ℕ) → Images Bytes (changes i k E₁)
+  bytes i k = images-of Bytes i k E₁ (every-map InRange (λ e. isChange e ≡ true → Bytes (beforeOf e) × Bytes (afterOf e)) (λ e r c. images-bytes e r) E₁ (in-range (take c₁ L) (bytes-take c₁ bL)))
+
+  lsns : (i : ℕ) → lastOn i E₂ ≤ lastLsn E₂
+  lsns i = last-bounds full i [] E₂ (log-in-turn full (take c₂ L) (A₂ .logOk)) .1
+
+  small : lastLsn E₂ < 2 ^ 64
+  small = last-small (2 ^ 64) E₂ (omega arith) (every-map InRange (λ e. e .lsn < 2 ^ 64) (λ e r. r .lsn) E₂ (in-range (take c₂ L) (bytes-take c₂ bL)))
+
+  -- a page mended by the shorter cut is accepted by the longer, which mends it as it mends the page itself
+  one-page : (i : ℕ) → i < pagesIn P
+      → Accepts (committed E₂) magic floor (lastLsn E₂) E₂ i (mend E₁ i (pageAt i P)) × (mend E₂ i (mend E₁ i (pageAt i P)) ≡ mend E₂ i (pageAt i P))
+  unfolding mend
+  one-page i l = go E₂ (longer .1) (page-accepts full magic floor P (take c₂ L) A₂ i l) (lsns i) small
+    where
+      a₁ : Accepts (committed E₁) magic floor (lastLsn E₁) E₁ i (pageAt i P)
+      a₁ = page-accepts full magic floor P (take c₁ L) A₁ i l
+
+      b : Bytes (pageAt i P)
+      b = bytes-take pageBytes (bytes-drop (i * pageBytes) bP)
+
+      go : (E : List Entry) → E₁ ++ longer .0 ≡ E → Accepts (committed E) magic floor (lastLsn E) E i (pageAt i P) → lastOn i E ≤ lastLsn E → lastLsn E < 2 ^ 64
+          → Accepts (committed E) magic floor (lastLsn E) E i (mendBy (committed E₁) E₁ i (pageAt i P))
+          × (mendBy (committed E) E i (mendBy (committed E₁) E₁ i (pageAt i P)) ≡ mendBy (committed E) E i (pageAt i P))
+      go E e a₂ m s =
+          let e′ : E ≡ E₁ ++ longer .0 = sym e in
+          let a : Accepts (committed E) magic floor (lastLsn E) (E₁ ++ longer .0) i (pageAt i P) = subst (λ (X : List Entry). Accepts (committed E) magic floor (lastLsn E) X i (pageAt i P)) e′ a₂ in
+          let n : lastOn i (E₁ ++ longer .0) ≤ lastLsn E = rw e m in
+          let x = mend-accepted (committed E₁) (committed E) magic floor (lastLsn E₁) (lastLsn E) E₁ (longer .0) i (pageAt i P) a₁ a b n s (tuples i) (bytes i) .0 in
+          let y = mend-again (committed E₁) (committed E) E₁ (longer .0) i (pageAt i P) (a₁ .good .size) b (omega (arith, last-append i E₁ (longer .0))) (a₁ .hasRoom) in (
+            subst (λ (X : List Entry). Accepts (committed E) magic floor (lastLsn E) X i (mendBy (committed E₁) E₁ i (pageAt i P))) e x,
+            subst (λ (X : List Entry). mendBy (committed E) X i (mendBy (committed E₁) E₁ i (pageAt i P)) ≡ mendBy (committed E) X i (pageAt i P)) e y,
+          )
+
+  -- pages of which each is as it was, or as the shorter cut mends it
+  module _ (Q : List ℕ) (same : length Q ≡ length P)
+      (each : (i : ℕ) → i < pagesIn P → (pageAt i Q ≡ pageAt i P) ⊎ (pageAt i Q ≡ mend E₁ i (pageAt i P))) where
+    count-same : pagesIn Q ≡ pagesIn P
+    count-same = ap (λ (n : ℕ). n / pageBytes) same
+
+    page-q : (i : ℕ) → i < pagesIn P → Accepts (committed E₂) magic floor (lastLsn E₂) E₂ i (pageAt i Q)
+    page-q i l = go (each i l)
+      where
+        go : (pageAt i Q ≡ pageAt i P) ⊎ (pageAt i Q ≡ mend E₁ i (pageAt i P)) → Accepts (committed E₂) magic floor (lastLsn E₂) E₂ i (pageAt i Q)
+        go (inl e) = subst (λ (q : List ℕ). Accepts (committed E₂) magic floor (lastLsn E₂) E₂ i q) (sym e) (page-accepts full magic floor P (take c₂ L) A₂ i l)
+        go (inr e) = subst (λ (q : List ℕ). Accepts (committed E₂) magic floor (lastLsn E₂) E₂ i q) (sym e) (one-page i l .0)
+
+    mend-q : (i : ℕ) → i < pagesIn P → mend E₂ i (pageAt i Q) ≡ mend E₂ i (pageAt i P)
+    mend-q i l = go (each i l)
+      where
+        go : (pageAt i Q ≡ pageAt i P) ⊎ (pageAt i Q ≡ mend E₁ i (pageAt i P)) → mend E₂ i (pageAt i Q) ≡ mend E₂ i (pageAt i P)
+        go (inl e) = ap (mend E₂ i) e
+        go (inr e) = ap (mend E₂ i) e ∙ one-page i l .1
+
+    again-accepted : Accepted full magic floor Q (take c₂ L)
+    unfolding sizeWrong
+    again-accepted =
+        record {
+          size = rw same (A₂ .size);
+          logOk = A₂ .logOk;
+          sane = λ i l.
+              let a = page-q i (omega (arith, count-same)) in
+              record { sound = good-sound magic i (pageAt i Q) (a .good); lsnKnown = a .lsnKnown };
+          lent = λ i t.
+              let b = A₂ .lent i t in
+              record { lent = omega (arith, count-same, b .lent); isData = page-q i (b .lent) .isData t };
+          roomy = λ i l. page-q i (omega (arith, count-same)) .hasRoom;
+        }
+
+    again-pages : mendedFrom E₂ Q (pagesIn Q) 0 ≡ mendedFrom E₂ P (pagesIn P) 0
+    again-pages = ap (λ (n : ℕ). mendedFrom E₂ Q n 0) count-same ∙ mended-alike E₂ Q P (pagesIn P) 0 (λ k a b. mend-q k (omega arith))
+
+-- the theorem, of any pages and any log
+module _ (magic floor : ℕ) (P L : List ℕ) (bP : Bytes P) (bL : Bytes L) (c₁ c₂ : ℕ) (le : c₁ ≤ c₂) (T₁ T₂ T₃ : List Record)
+    (t₁ : length T₁ ≡ length T₂) (t₃ : length T₃ ≡ length T₂) (ok : recoverOf magic floor P (take c₂ L) T₂ .answer .number ≡ 0)
+    (Q : List ℕ) (same : length Q ≡ length P)
+    (each : (i : ℕ) → i < pagesIn P → (pageAt i Q ≡ pageAt i P) ⊎ (pageAt i Q ≡ pageAt i (recoverOf magic floor P (take c₁ L) T₁ .pages))) where
+  A : Accepted (fullAt (length T₂)) magic floor P (take c₂ L)
+  A = is-accepted (fullAt (length T₂)) magic floor P (take c₂ L) (recover-zero magic floor P (take c₂ L) T₂ ok)
+
+  abbrev Ends : Type 0
+  Ends = (recoverOf magic floor Q (take c₂ L) T₃ .answer ≡ recoverOf magic floor P (take c₂ L) T₂ .answer)
+      × (recoverOf magic floor Q (take c₂ L) T₃ .pages ≡ recoverOf magic floor P (take c₂ L) T₂ .pages)
+
+  -- from an accepted first run; a refused one left every page as it was, so the longer cut itself serves as the shorter
+  ends : (c : ℕ) → c ≤ c₂ → Accepted (fullAt (length T₂)) magic floor P (take c L)
+      → ((i : ℕ) → i < pagesIn P → (pageAt i Q ≡ pageAt i P) ⊎ (pageAt i Q ≡ mend (entries (take c L)) i (pageAt i P))) → Ends
+  ends c l a h =
+      let n : pagesIn Q ≡ pagesIn P = ap (λ (n : ℕ). n / pageBytes) same in
+      let acc = again-accepted (fullAt (length T₂)) magic floor P L bP bL c c₂ l a A Q same h in
+      let v : recoverVerdict (fullAt (length T₃)) magic floor Q (take c₂ L) .number ≡ 0 = rw t₃ (accepted-is (fullAt (length T₂)) magic floor Q (take c₂ L) acc) in
+      let d = recover-done magic floor Q (take c₂ L) T₃ v in
+      let e = recover-done magic floor P (take c₂ L) T₂ (recover-zero magic floor P (take c₂ L) T₂ ok) in (
+        d .0 ∙ ap (done (entries (take c₂ L)) (endOf (take c₂ L))) n ∙ sym (e .0),
+        d .1 ∙ again-pages (fullAt (length T₂)) magic floor P L bP bL c c₂ l a A Q same h ∙ sym (e .1),
+      )
+
+  mended-first : (a : Accepted (fullAt (length T₂)) magic floor P (take c₁ L)) → recoverVerdict (fullAt (length T₁)) magic floor P (take c₁ L) .number ≡ 0
+      → (i : ℕ) → i < pagesIn P → pageAt i (recoverOf magic floor P (take c₁ L) T₁ .pages) ≡ mend (entries (take c₁ L)) i (pageAt i P)
+  mended-first a v i l =
+      let whole : (k : ℕ) → 0 ≤ k → k < 0 + pagesIn P → length (mend (entries (take c₁ L)) k (pageAt k P)) ≡ pageBytes =
+      λ k x y. one-page (fullAt (length T₂)) magic floor P L bP bL c₁ c₂ le a A k (omega arith) .0 .good .size in
+      let z : 0 + i ≡ i = omega arith in
+      ap (pageAt i) (recover-done magic floor P (take c₁ L) T₁ v .1)
+      ∙ page-mended (entries (take c₁ L)) P (pagesIn P) 0 i whole l ∙ ap (λ (k : ℕ). mend (entries (take c₁ L)) k (pageAt k P)) z
+
+  pub again : Ends
+  again = go (eqb (recoverVerdict (fullAt (length T₁)) magic floor P (take c₁ L) .number) 0) refl
+    where
+      go : (b : Bool) → eqb (recoverVerdict (fullAt (length T₁)) magic floor P (take c₁ L) .number) 0 ≡ b → Ends
+      go true e =
+          let v : recoverVerdict (fullAt (length T₁)) magic floor P (take c₁ L) .number ≡ 0 = eqb-true _ _ e in
+          let a : Accepted (fullAt (length T₂)) magic floor P (take c₁ L) = is-accepted (fullAt (length T₂)) magic floor P (take c₁ L) (rw t₁ at v) in
+          ends c₁ le a (λ i l. ⊎-elim {C = (pageAt i Q ≡ pageAt i P) ⊎ (pageAt i Q ≡ mend (entries (take c₁ L)) i (pageAt i P))} (λ h. inl h) (λ h. inr (h ∙ mended-first a v i l)) (each i l))
+      go false e =
+          let p : recoverOf magic floor P (take c₁ L) T₁ .pages ≡ P = ap (λ (r : Recovered). r .pages) (recover-refused magic floor P (take c₁ L) T₁ e) in
+          ends c₂ (omega arith) A (λ i l. inl (⊎-elim {C = pageAt i Q ≡ pageAt i P} (λ h. h) (λ h. h ∙ ap (pageAt i) p) (each i l)))

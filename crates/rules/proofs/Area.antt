@@ -1,0 +1,54 @@
+-- A page area page by page: the pages of a mended area, and two areas that agree on every page.
+-- Assumes nothing.
+use mathlib.Core.Path.{_≡_, refl, sym, ap, ap₂, _∙_}
+use Prim.Native.Nat.{ℕ, zero, suc, _+_, _*_, _-_, _/_, _%_, _≤_, _<_}
+use native.Mathlib.Omega.{arith}
+use native.Mathlib.Nat.{add-zero}
+use mathlib.Core.List.{List, [], _∷_, _++_}
+use lib.ListN.{length, take, drop, length-append, length-take, length-drop, take-append-drop}
+use lib.Seq.{take-at, drop-at, drop-drop, take-all, length-take-le}
+use Rattle.wal.specs.Entry.{Entry}
+use Rattle.page.specs.Layout.{pageBytes, pagesIn, pageAt}
+use Rattle.rules.specs.Mend.{mend}
+use Rattle.rules.specs.Recover.{mendedFrom}
+
+pub page-first : (m rest : List ℕ) → length m ≡ pageBytes → pageAt 0 (m ++ rest) ≡ m
+page-first m rest e = take-at m rest pageBytes e
+
+pub page-later : (j : ℕ) (m rest : List ℕ) → length m ≡ pageBytes → pageAt (suc j) (m ++ rest) ≡ pageAt j rest
+page-later j m rest e =
+    let a : suc j * pageBytes ≡ pageBytes + j * pageBytes = omega arith in
+    ap (take pageBytes) (ap (λ (n : ℕ). drop n (m ++ rest)) a ∙ sym (drop-drop (j * pageBytes) pageBytes (m ++ rest)) ∙ ap (drop (j * pageBytes)) (drop-at m rest pageBytes e))
+
+module _ (es : List Entry) (s : List ℕ) where
+  -- page j of the n pages from i on, mended
+  pub page-mended : (n i j : ℕ) → ((k : ℕ) → i ≤ k → k < i + n → length (mend es k (pageAt k s)) ≡ pageBytes) → j < n
+      → pageAt j (mendedFrom es s n i) ≡ mend es (i + j) (pageAt (i + j) s)
+  unfolding mendedFrom
+  page-mended zero i j h l = absurd (omega arith)
+  page-mended (suc n) i zero h l =
+      rw add-zero (page-first (mend es i (pageAt i s)) (mendedFrom es s n (suc i)) (h i (omega arith) (omega arith)))
+  page-mended (suc n) i (suc j) h l =
+      let e : suc i + j ≡ i + suc j = omega arith in
+      page-later j (mend es i (pageAt i s)) (mendedFrom es s n (suc i)) (h i (omega arith) (omega arith))
+      ∙ page-mended n (suc i) j (λ k a b. h k (omega arith) (omega arith)) (omega arith)
+      ∙ ap (λ (k : ℕ). mend es k (pageAt k s)) e
+
+  pub length-mended : (n i : ℕ) → ((k : ℕ) → i ≤ k → k < i + n → length (mend es k (pageAt k s)) ≡ pageBytes) → length (mendedFrom es s n i) ≡ n * pageBytes
+  unfolding mendedFrom
+  length-mended zero i h = refl
+  length-mended (suc n) i h =
+      length-append (mend es i (pageAt i s)) (mendedFrom es s n (suc i))
+      ∙ omega (arith, h i (omega arith) (omega arith), length-mended n (suc i) (λ k a b. h k (omega arith) (omega arith)))
+
+-- two areas mended alike, page by page
+pub mended-alike : (es : List Entry) (s t : List ℕ) (n i : ℕ) → ((k : ℕ) → i ≤ k → k < i + n → mend es k (pageAt k s) ≡ mend es k (pageAt k t))
+    → mendedFrom es s n i ≡ mendedFrom es t n i
+unfolding mendedFrom
+mended-alike es s t zero i h = refl
+mended-alike es s t (suc n) i h =
+    ap₂ _++_ (h i (omega arith) (omega arith)) (mended-alike es s t n (suc i) (λ k a b. h k (omega arith) (omega arith)))
+
+-- a page of an area has all its bytes
+pub page-length : (s : List ℕ) (i : ℕ) → i < pagesIn s → length (pageAt i s) ≡ pageBytes
+page-length s i l = length-take-le pageBytes (drop (i * pageBytes) s) (simp length-drop (omega arith))

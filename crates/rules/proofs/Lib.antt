@@ -1,0 +1,11 @@
+pub mod Slots
+pub mod Mended
+pub mod Accepted
+pub mod Tests
+pub mod OrderLaws
+pub mod ImageLaws
+pub mod Verdicts
+pub mod Range
+pub mod Area
+pub mod Again
+pub mod Counts

@@ -1,0 +1,220 @@
+-- Recovery accepts exactly if the log is accepted, every touched page is lent, and each page is accepted.
+-- Assumes nothing.
+use mathlib.Core.Path.{_≡_, refl, sym, ap, _∙_}
+use mathlib.Core.Bool.{Bool, true, false, not}
+use Prim.Native.Nat.{ℕ, zero, suc, _+_, _*_, _≤_, _<_, max}
+use native.Mathlib.Omega.{arith}
+use native.Mathlib.Nat.{add-zero, zero-add}
+use native.Mathlib.Decide.{decLe}
+use mathlib.Core.List.{List, [], _∷_, _++_}
+use lib.ListN.{length}
+use lib.Dec.{ltb, leb, eqb}
+use borrow.Author.Tests.{ltb-true, ltb-false, leb-true, leb-false, eqb-true, eqb-false, lt-ltb, le-ltb, le-leb, lt-leb, eq-eqb, ne-eqb}
+use Rattle.endian.specs.Pick.{pick}
+use Rattle.wal.specs.Entry.{Entry, sizeOf}
+use Rattle.wal.specs.Read.{first}
+use Rattle.wal.specs.Walk.{entries}
+use Rattle.page.specs.Layout.{pageBytes, bodyBytes, dataType, pagesIn, pageAt, typeOf, lsnOf}
+use Rattle.page.specs.Packed.{roomFor}
+use Rattle.page.specs.Good.{Good}
+use Rattle.page.specs.Fault.{verdict, accepted, judged, faultOf, sizeWrong}
+use Rattle.page.specs.declared.Verdict.{Verdict}
+use Rattle.page.specs.declared.Fault.{Fault}
+use Rattle.page.specs.declared.Fault.the-variants.{Sound, MagicOrType, Id, Checksum, Count, FreeStart, FreeEnd, Slot}
+use Rattle.rules.specs.Shape.{both, either, isChange, pageOf, slotOf, isOn, topOn}
+use Rattle.rules.specs.Order.{lastLsn, logVerdict, _then_}
+use Rattle.rules.specs.Mend.{committed, topOf, slotsFor, Accepts}
+use Rattle.rules.specs.Recover.{pagesFrom, isStray, strayFrom, isTouched, isTight, tightFrom, recoverVerdict}
+use Rattle.rules.proofs.Tests.{both-true, either-false, false-true}
+use Rattle.rules.proofs.OrderLaws.{Every}
+
+-- ---- one verdict after another
+
+pub then-zero : (v w : Verdict) → (v then w) .number ≡ 0 → (v .number ≡ 0) × (w .number ≡ 0)
+then-zero v w h = go (eqb (v .number) 0) refl h
+  where
+    go : (b : Bool) → eqb (v .number) 0 ≡ b → pick b w v .number ≡ 0 → (v .number ≡ 0) × (w .number ≡ 0)
+    go true e k = (eqb-true (v .number) 0 e, k)
+    go false e k = absurd (eqb-false (v .number) 0 e k)
+
+pub zero-then : (v w : Verdict) → v .number ≡ 0 → w .number ≡ 0 → (v then w) .number ≡ 0
+zero-then v w h k = rw (eq-eqb (v .number) 0 h) k
+
+-- a test that refuses did not hold
+unrefused : (b : Bool) (v w : Verdict) → (v .number ≡ 0 → ⊥) → pick b v w .number ≡ 0 → (b ≡ false) × (w .number ≡ 0)
+unrefused true v w n h = absurd (n h)
+unrefused false v w n h = (refl, h)
+
+-- ---- pages
+
+judged-zero : (f : Fault) (i : ℕ) (v : Verdict) → judged f i v .number ≡ 0 → (f ≡ Sound) × (v .number ≡ 0)
+judged-zero Sound i v h = (refl, h)
+judged-zero MagicOrType i v h = absurd (omega arith)
+judged-zero Id i v h = absurd (omega arith)
+judged-zero Checksum i v h = absurd (omega arith)
+judged-zero Count i v h = absurd (omega arith)
+judged-zero FreeStart i v h = absurd (omega arith)
+judged-zero FreeEnd i v h = absurd (omega arith)
+judged-zero (Slot k) i v h = absurd (omega arith)
+
+-- page i passes 11 and 12
+pub record Sane (magic floor last : ℕ) (s : List ℕ) (i : ℕ) : Type 0 where
+  pub sound : faultOf magic i (pageAt i s) ≡ Sound
+  pub lsnKnown : lsnOf (pageAt i s) ≤ max floor last
+
+module _ (magic floor last : ℕ) (s : List ℕ) where
+  pub pages-sane : (n i : ℕ) → pagesFrom magic floor last s n i .number ≡ 0 → (j : ℕ) → i ≤ j → j < i + n → Sane magic floor last s j
+  unfolding pagesFrom
+  pages-sane zero i h j a b = absurd (omega arith)
+  pages-sane (suc n) i h j a b =
+      let z = judged-zero (faultOf magic i (pageAt i s)) i _ h in
+      let y = unrefused (ltb (max floor last) (lsnOf (pageAt i s))) (verdict 12 i) _ (λ k. omega arith) (z .1) in
+      let here : Sane magic floor last s i = record { sound = z .0; lsnKnown = ltb-false _ _ (y .0) } in
+      elim (decLe (suc i) j) [
+        | yes l ↦ pages-sane n (suc i) (y .1) j l (omega arith)
+        | no l ↦ let e : j ≡ i = omega arith in rw e here
+      ]
+
+  sane-pages : (n i : ℕ) → ((j : ℕ) → i ≤ j → j < i + n → Sane magic floor last s j) → pagesFrom magic floor last s n i .number ≡ 0
+  unfolding pagesFrom
+  sane-pages zero i h = refl
+  sane-pages (suc n) i h =
+      let x = h i (omega arith) (omega arith) in
+      rw (x .sound, le-ltb _ _ (x .lsnKnown)) (sane-pages n (suc i) (λ j a b. h j (omega arith) (omega arith)))
+
+-- ---- changes
+
+pub stray-none : (s : List ℕ) (es : List Entry) (at : ℕ) → strayFrom s es at .number ≡ 0 → Every (λ e. isStray s e ≡ false) es
+unfolding strayFrom
+stray-none s [] at h = tt
+stray-none s (e ∷ es) at h =
+    let y = unrefused (isStray s e) (verdict 13 at) _ (λ k. omega arith) h in
+    (y .0, stray-none s es (at + sizeOf e) (y .1))
+
+pub none-stray : (s : List ℕ) (es : List Entry) (at : ℕ) → Every (λ e. isStray s e ≡ false) es → strayFrom s es at .number ≡ 0
+unfolding strayFrom
+none-stray s [] at h = refl
+none-stray s (e ∷ es) at h = rw (h .0) (none-stray s es (at + sizeOf e) (h .1))
+
+-- a touched page is lent, and a Data page
+pub record Lent (s : List ℕ) (i : ℕ) : Type 0 where
+  pub lent : i < pagesIn s
+  pub isData : typeOf (pageAt i s) ≡ dataType
+
+lent-one : (s : List ℕ) (i : ℕ) (e : Entry) → isStray s e ≡ false → 0 < topOn i e → Lent s i
+unfolding isStray topOn isOn
+lent-one s i e = go (isChange e) (eqb (pageOf e) i) refl
+  where
+    at : (eqb (pageOf e) i ≡ true) → either (leb (pagesIn s) (pageOf e)) (not (eqb (typeOf (pageAt (pageOf e) s)) dataType)) ≡ false → Lent s i
+    at q h =
+        let z : pageOf e ≡ i = eqb-true _ _ q in
+        let r = either-false (leb (pagesIn s) (pageOf e)) _ h in
+        rw (← z) (record { lent = leb-false _ _ (r .0); isData = eqb-true _ _ (flip (eqb (typeOf (pageAt (pageOf e) s)) dataType) (r .1)) })
+      where
+        flip : (b : Bool) → not b ≡ false → b ≡ true
+        flip true h = refl
+        flip false h = sym h
+
+    go : (a b : Bool) → eqb (pageOf e) i ≡ b
+        → both a (either (leb (pagesIn s) (pageOf e)) (not (eqb (typeOf (pageAt (pageOf e) s)) dataType))) ≡ false
+        → 0 < pick (both a b) (suc (slotOf e)) 0 → Lent s i
+    go true true q h t = at q h
+    go true false q h t = absurd (omega arith)
+    go false b q h t = absurd (omega arith)
+
+pub lent-all : (s : List ℕ) (i : ℕ) (es : List Entry) → Every (λ e. isStray s e ≡ false) es → 0 < topOf i es → Lent s i
+unfolding topOf
+lent-all s i [] h t = absurd (omega arith)
+lent-all s i (e ∷ es) h t =
+    elim (decLe 1 (topOn i e)) [
+      | yes l ↦ lent-one s i e (h .0) l
+      | no l ↦ lent-all s i es (h .1) (omega arith)
+    ]
+
+-- the other way
+one-lent : (s : List ℕ) (e : Entry) → ((i : ℕ) → 0 < topOn i e → Lent s i) → isStray s e ≡ false
+unfolding isStray topOn isOn
+one-lent s e h = go (isChange e) refl
+  where
+    go : (a : Bool) → isChange e ≡ a → both a (either (leb (pagesIn s) (pageOf e)) (not (eqb (typeOf (pageAt (pageOf e) s)) dataType))) ≡ false
+    go true q =
+        let t : 0 < pick (both (isChange e) (eqb (pageOf e) (pageOf e))) (suc (slotOf e)) 0 = rw (q, eq-eqb (pageOf e) (pageOf e) refl) (omega arith) in
+        let l = h (pageOf e) t in
+        rw (lt-leb _ _ (l .lent), eq-eqb _ _ (l .isData))
+    go false q = refl
+
+pub all-lent : (s : List ℕ) (es : List Entry) → ((i : ℕ) → 0 < topOf i es → Lent s i) → Every (λ e. isStray s e ≡ false) es
+unfolding topOf
+all-lent s [] h = tt
+all-lent s (e ∷ es) h = (one-lent s e (λ i t. h i (omega arith)), all-lent s es (λ i t. h i (omega arith)))
+
+-- ---- room
+
+module _ (es : List Entry) (s : List ℕ) where
+  abbrev pub Roomy : ℕ → Type 0
+  Roomy i = 0 < topOf i es → roomFor (slotsFor (committed es) es i (pageAt i s)) ≤ bodyBytes
+
+  roomy : (i : ℕ) → isTight es s i ≡ false → Roomy i
+  unfolding isTight
+  roomy i h t = ltb-false _ _ (rw (lt-ltb _ _ t) at h)
+
+  not-tight : (i : ℕ) → Roomy i → isTight es s i ≡ false
+  unfolding isTight
+  not-tight i h =
+      elim (decLe 1 (topOf i es)) [
+        | yes t ↦ rw (lt-ltb 0 (topOf i es) t) (le-ltb _ _ (h t))
+        | no t ↦ rw (le-ltb 0 (topOf i es) (omega arith))
+      ]
+
+  tight-none : (n i : ℕ) → tightFrom es s n i .number ≡ 0 → (j : ℕ) → i ≤ j → j < i + n → Roomy j
+  unfolding tightFrom
+  tight-none zero i h j a b = absurd (omega arith)
+  tight-none (suc n) i h j a b =
+      let y = unrefused (isTight es s i) (verdict 14 i) _ (λ k. omega arith) h in
+      let here : Roomy i = roomy i (y .0) in
+      elim (decLe (suc i) j) [
+        | yes l ↦ tight-none n (suc i) (y .1) j l (omega arith)
+        | no l ↦ let e : j ≡ i = omega arith in rw e here
+      ]
+
+  none-tight : (n i : ℕ) → ((j : ℕ) → i ≤ j → j < i + n → Roomy j) → tightFrom es s n i .number ≡ 0
+  unfolding tightFrom
+  none-tight zero i h = refl
+  none-tight (suc n) i h = rw (not-tight i (h i (omega arith) (omega arith))) (none-tight n (suc i) (λ j a b. h j (omega arith) (omega arith)))
+
+-- ---- all of it
+
+pub record Accepted (full : ℕ → Bool) (magic floor : ℕ) (pages log : List ℕ) : Type 0 where
+  pub size : sizeWrong pages ≡ false
+  pub logOk : logVerdict full log .number ≡ 0
+  pub sane : (i : ℕ) → i < pagesIn pages → Sane magic floor (lastLsn (entries log)) pages i
+  pub lent : (i : ℕ) → 0 < topOf i (entries log) → Lent pages i
+  pub roomy : (i : ℕ) → i < pagesIn pages → Roomy (entries log) pages i
+
+module _ (full : ℕ → Bool) (magic floor : ℕ) (pages log : List ℕ) where
+  pub is-accepted : recoverVerdict full magic floor pages log .number ≡ 0 → Accepted full magic floor pages log
+  unfolding recoverVerdict
+  is-accepted h =
+      let a = then-zero (pick (sizeWrong pages) (verdict 1 0) accepted) _ h in
+      let z = unrefused (sizeWrong pages) (verdict 1 0) accepted (λ k. omega arith) (a .0) in
+      let b = then-zero (logVerdict full log) _ (a .1) in
+      let c = then-zero (pagesFrom magic floor (lastLsn (entries log)) pages (pagesIn pages) 0) _ (b .1) in
+      let d = then-zero (strayFrom pages (entries log) first) (tightFrom (entries log) pages (pagesIn pages) 0) (c .1) in
+      record {
+        size = z .0;
+        logOk = b .0;
+        sane = λ i l. pages-sane magic floor (lastLsn (entries log)) pages (pagesIn pages) 0 (c .0) i (omega arith) (omega arith);
+        lent = λ i t. lent-all pages i (entries log) (stray-none pages (entries log) first (d .0)) t;
+        roomy = λ i l. tight-none (entries log) pages (pagesIn pages) 0 (d .1) i (omega arith) (omega arith);
+      }
+
+  pub accepted-is : Accepted full magic floor pages log → recoverVerdict full magic floor pages log .number ≡ 0
+  unfolding recoverVerdict
+  accepted-is a =
+      zero-then (pick (sizeWrong pages) (verdict 1 0) accepted) _ (rw (a .size))
+      (zero-then (logVerdict full log) _ (a .logOk)
+      (zero-then (pagesFrom magic floor (lastLsn (entries log)) pages (pagesIn pages) 0) _
+      (sane-pages magic floor (lastLsn (entries log)) pages (pagesIn pages) 0 (λ j l k. a .sane j (omega arith)))
+      (zero-then (strayFrom pages (entries log) first) (tightFrom (entries log) pages (pagesIn pages) 0)
+      (none-stray pages (entries log) first (all-lent pages (entries log) (a .lent)))
+      (none-tight (entries log) pages (pagesIn pages) 0 (λ j l k. a .roomy j (omega arith))))))

@@ -1,0 +1,5 @@
+pub mod Shape
+pub mod Order
+pub mod Mend
+pub mod Recover
+pub mod Row

@@ -1,0 +1,37 @@
+// The types of recovery's answers; specs/ says what they are to hold.
+use endian::Lsn;
+use endian::TxnNumber;
+
+// What recovery answers; refused, all but number and place are 0.
+pub struct Answer {
+    pub number: u64,
+    pub place: u64,
+    pub last_lsn: Lsn,
+    pub tail: u64,
+    pub committed: u64,
+    pub rolled_back: u64,
+    pub unended: u64,
+    pub changes_committed: u64,
+    pub changes_rolled_back: u64,
+    pub changes_unended: u64,
+    pub changes_zero: u64,
+    pub rewritten: u64,
+}
+
+// A record of the transaction table: outcome 0 unended, 1 committed, 2 rolled back.
+pub struct Record {
+    pub number: TxnNumber,
+    pub first: Lsn,
+    pub outcome: u8,
+    pub changes: u64,
+}
+
+// A row as recovery would leave it: refused or unfilled, its header is zero.
+pub struct RowHead {
+    pub number: u64,
+    pub place: u64,
+    pub filled: bool,
+    pub xmin: TxnNumber,
+    pub xmax: TxnNumber,
+    pub deleted: u8,
+}

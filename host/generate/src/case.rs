@@ -1,0 +1,239 @@
+//! One complete input for every seed, of a kind that the seed chooses.
+
+use crate::draft::Draft;
+use crate::history::History;
+use crate::mutate::{mutations, Aim, Mutation};
+use crate::page::{get_u16, get_u64, PAGE_BYTES};
+use crate::rng::Rng;
+use crate::style::Style;
+use crate::wild::{corrupt, random_bytes, wild};
+
+/// A complete input for every call.
+#[derive(Clone, Debug)]
+pub struct Case {
+    pub seed: u64,
+    pub kind: &'static str,
+    pub magic: u64,
+    pub floor: u64,
+    pub pages: Vec<u8>,
+    pub log: Vec<u8>,
+    /// How many records the lent table has.
+    pub records: usize,
+    /// The row that is asked for, and where visible rows are looked for.
+    pub page: u64,
+    pub slot: u16,
+    /// How many bytes the lent free map has.
+    pub map_len: usize,
+    /// Where the log reader steps from.
+    pub place: u64,
+    /// What the input was made to be answered with, if it was made for that.
+    pub aim: Option<Aim>,
+    /// For an honest history, what is needed to tell its ledger.
+    pub honest: Option<Honest>,
+    /// An earlier run on the same pages, broken off by a power failure.
+    pub earlier: Option<Earlier>,
+}
+
+#[derive(Clone, Debug)]
+pub struct Honest {
+    pub start_pages: Vec<u8>,
+    /// The history's whole log; the case's log is a cut of it.
+    pub whole_log: Vec<u8>,
+    /// Where the last change that any page has felt ends in the whole log.
+    pub felt_end: usize,
+}
+
+impl Honest {
+    /// Whether a cut has every change that the pages have felt, so that the
+    /// mended pages must be as the ledger says.
+    pub fn has_felt_changes(&self, cut: usize) -> bool {
+        cut >= self.felt_end
+    }
+}
+
+#[derive(Clone, Debug)]
+pub struct Earlier {
+    pub floor: u64,
+    /// How many bytes of the case's log the earlier run was given.
+    pub cut: usize,
+    /// Which pages it had mended before the power failed.
+    pub mended: Vec<bool>,
+}
+
+/// The input of a seed: the same on every machine.
+pub fn case(seed: u64) -> Case {
+    let mut rng = Rng::new(seed);
+    let rng = &mut rng;
+    match rng.below(100) {
+        0..=34 => honest(rng, seed),
+        35..=49 => {
+            let draft = wild(rng);
+            let case = finish(rng, seed, "wild", draft);
+            with_earlier_run(rng, case)
+        }
+        50..=84 => mutated(rng, seed),
+        85..=89 => mutated_twice(rng, seed),
+        90..=94 => {
+            let mut draft = if rng.one_in(2) {
+                wild(rng)
+            } else {
+                let style = Style::any(rng);
+                Draft::honest(rng, style)
+            };
+            corrupt(rng, &mut draft);
+            finish(rng, seed, "bytes changed at random", draft)
+        }
+        _ => {
+            let draft = random_bytes(rng);
+            finish(rng, seed, "random bytes", draft)
+        }
+    }
+}
+
+/// Pages at moments of an honest history and a cut of its log; in four of five
+/// cases the cut has every change that the pages have felt.
+fn honest(rng: &mut Rng, seed: u64) -> Case {
+    let style = Style::any(rng);
+    let strays = rng.one_in(5);
+    let history = History::random(rng, style, strays);
+    let moments = history.at_moments(rng);
+    let (kind, cut) = if rng.one_in(5) {
+        ("honest, any cut", history.any_cut(rng))
+    } else {
+        ("honest", history.cut_from(rng, moments.felt_end))
+    };
+    let draft = Draft::from_parts(rng, &history, moments.pages, cut);
+    let mut case = finish(rng, seed, kind, draft);
+    case.honest = Some(Honest {
+        start_pages: history.start_pages,
+        whole_log: history.log,
+        felt_end: moments.felt_end,
+    });
+    with_earlier_run(rng, case)
+}
+
+/// Adds an earlier run from the same or a shorter cut, with its own floor.
+fn with_earlier_run(rng: &mut Rng, case: Case) -> Case {
+    let cut = if rng.one_in(4) {
+        case.log.len()
+    } else {
+        rng.size(32, case.log.len())
+    };
+    let floor = if rng.one_in(5) {
+        rng.number()
+    } else {
+        case.floor
+    };
+    let mended = (0..case.pages.len() / PAGE_BYTES)
+        .map(|_| rng.one_in(2))
+        .collect();
+    let earlier = Earlier { floor, cut, mended };
+    Case {
+        earlier: Some(earlier),
+        ..case
+    }
+}
+
+/// An input that a mutation can be applied to, so that its aim holds. Where the
+/// whole input must be accepted but for the mutation, no page may be overfull.
+pub fn base_for(rng: &mut Rng, mutation: &Mutation) -> Draft {
+    let style = match mutation.number {
+        1..=12 => Style::any(rng),
+        _ => Style::Calm,
+    };
+    Draft::honest(rng, style)
+}
+
+/// A mutation; those that make huge buffers come up seldom.
+fn any_mutation(rng: &mut Rng) -> Mutation {
+    let all = mutations();
+    loop {
+        let mutation = *rng.pick(&all);
+        if rng.one_in(mutation.seldom) {
+            return mutation;
+        }
+    }
+}
+
+fn mutated(rng: &mut Rng, seed: u64) -> Case {
+    let mutation = any_mutation(rng);
+    mutated_by(rng, seed, &mutation)
+}
+
+/// An input spoiled by one mutation, with what it must be answered with.
+pub fn mutated_by(rng: &mut Rng, seed: u64, mutation: &Mutation) -> Case {
+    let mut draft = base_for(rng, mutation);
+    let place = (mutation.apply)(rng, &mut draft);
+    let mut case = finish(rng, seed, mutation.name, draft);
+    case.aim = Some(Aim {
+        number: mutation.number,
+        place,
+    });
+    case
+}
+
+/// Two faults in one input: one of pages or of the whole input, then one of the
+/// log, which is judged before all others but the page bytes.
+fn mutated_twice(rng: &mut Rng, seed: u64) -> Case {
+    let is_of_log = |mutation: &Mutation| (2..=10).contains(&mutation.number);
+    let pick = |rng: &mut Rng, of_log: bool| loop {
+        let mutation = any_mutation(rng);
+        if is_of_log(&mutation) == of_log && mutation.seldom == 1 {
+            return mutation;
+        }
+    };
+    let first = pick(rng, false);
+    let second = pick(rng, true);
+    let mut draft = base_for(rng, &first);
+    (first.apply)(rng, &mut draft);
+    let place = (second.apply)(rng, &mut draft);
+    let mut case = finish(rng, seed, "two mutations", draft);
+    case.aim = Some(match first.number {
+        1 => Aim {
+            number: 1,
+            place: 0,
+        },
+        _ => Aim {
+            number: second.number,
+            place,
+        },
+    });
+    case
+}
+
+/// Puts a draft together and chooses where rows are looked for and where the
+/// log reader steps from.
+fn finish(rng: &mut Rng, seed: u64, kind: &'static str, draft: Draft) -> Case {
+    let log = draft.log();
+    let (mut page, mut slot) = (draft.page, draft.slot);
+    let long: Vec<&Vec<u8>> = draft.pieces.iter().filter(|it| it.len() >= 77).collect();
+    if page < draft.page_count() as u64 && !long.is_empty() && rng.one_in(2) {
+        // A slot that a change of the log speaks of.
+        let piece = *rng.pick(&long);
+        page = get_u64(piece, 27);
+        slot = get_u16(piece, 35);
+    }
+    let end = log.len() as u64;
+    let place = match rng.below(6) {
+        0 => rng.number(),
+        1 => rng.between(0, end + 4),
+        2 => end,
+        _ => draft.offset(draft.any_gap(rng)),
+    };
+    Case {
+        seed,
+        kind,
+        magic: draft.magic,
+        floor: draft.floor,
+        pages: draft.pages,
+        log,
+        records: draft.records,
+        page,
+        slot,
+        map_len: draft.map_len,
+        place,
+        aim: None,
+        honest: None,
+        earlier: None,
+    }
+}

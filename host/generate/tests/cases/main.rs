@@ -1,0 +1,8 @@
+//! Thousands of random inputs, and what must hold of every one of them.
+
+mod common;
+mod honest;
+mod honesty;
+mod readers;
+mod refusals;
+mod seeds;

@@ -1,0 +1,55 @@
+//! The functions of include/lumbraquay.h.
+
+extern "C" {
+    pub fn lq_crc32c(s: *const u8, len: usize) -> u32;
+
+    pub fn lq_log_open(log: *const u8, len: usize, at_end: bool, out: *mut u64);
+
+    pub fn lq_log_forward(log: *const u8, len: usize, place: u64, out: *mut u64);
+
+    pub fn lq_log_backward(log: *const u8, len: usize, place: u64, out: *mut u64);
+
+    pub fn lq_verify(magic: u64, pages: *const u8, len: usize, out: *mut u64);
+
+    pub fn lq_recover(
+        magic: u64,
+        floor: u64,
+        pages: *mut u8,
+        pages_len: usize,
+        log: *const u8,
+        log_len: usize,
+        table: *mut u64,
+        table_len: usize,
+        out: *mut u64,
+    );
+
+    pub fn lq_read_row(
+        magic: u64,
+        floor: u64,
+        pages: *const u8,
+        pages_len: usize,
+        log: *const u8,
+        log_len: usize,
+        page: u64,
+        slot: u16,
+        out: *mut u64,
+    );
+
+    pub fn lq_next_visible(
+        magic: u64,
+        pages: *const u8,
+        len: usize,
+        page: u64,
+        slot: u16,
+        out: *mut u64,
+    );
+
+    pub fn lq_free_map(
+        magic: u64,
+        pages: *const u8,
+        len: usize,
+        map: *mut u8,
+        map_len: usize,
+        out: *mut u64,
+    );
+}

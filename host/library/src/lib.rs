@@ -1,0 +1,218 @@
+//! The proved library as Rust code calls it: safe functions over the C interface of include/lumbraquay.h. An answer is
+//! a struct with the numbers of its C array, in their order.
+
+mod c;
+pub mod refusal;
+
+/// The bytes of a page.
+pub const PAGE_BYTES: usize = 16_384;
+
+/// More pages are refused by 1.
+pub const PAGE_LIMIT: usize = 4_096;
+
+/// A longer log is refused by 2.
+pub const LOG_LIMIT_BYTES: usize = 16_777_216;
+
+/// The bytes of a log before its first entry.
+pub const LOG_HEAD_BYTES: usize = 32;
+
+/// The bytes of the shortest entry.
+pub const SHORTEST_ENTRY_BYTES: usize = 43;
+
+/// How many numbers of a lent table make one record.
+pub const RECORD_NUMBERS: usize = 4;
+
+/// Kinds of a step: an entry; forward the exact end, backward none; a torn tail; damage.
+pub const STEP_ENTRY: u64 = 0;
+pub const STEP_END: u64 = 1;
+pub const STEP_TORN: u64 = 2;
+pub const STEP_DAMAGED: u64 = 4;
+
+/// Outcomes of a transaction.
+pub const UNENDED: u64 = 0;
+pub const COMMITTED: u64 = 1;
+pub const ROLLED_BACK: u64 = 2;
+
+/// Where the payload of a row stands.
+pub const FROM_NOWHERE: u64 = 0;
+pub const FROM_LOG: u64 = 1;
+pub const FROM_PAGES: u64 = 2;
+
+/// Declares a struct of numbers that is read off a C array in the order of its fields.
+macro_rules! numbers {
+    ($(#[$doc:meta])* $name:ident: $count:literal { $($field:ident),+ }) => {
+        $(#[$doc])*
+        #[derive(Clone, Copy, Debug, PartialEq, Eq, Default)]
+        pub struct $name {
+            $(pub $field: u64),+
+        }
+
+        impl From<[u64; $count]> for $name {
+            fn from([$($field),+]: [u64; $count]) -> $name {
+                $name { $($field),+ }
+            }
+        }
+    };
+}
+
+numbers! {
+    /// Number 0 is done; any other is a refusal, with the place that its line of the table names.
+    Verdict: 2 { number, place }
+}
+
+numbers! {
+    /// What recovery answers. Refused, all but number and place are 0.
+    Answer: 12 {
+        number, place, last_lsn, tail_offset, committed, rolled_back, unended,
+        changes_committed, changes_rolled_back, changes_unended, changes_zero, pages_rewritten
+    }
+}
+
+numbers! {
+    /// One transaction of the log.
+    Record: 4 { number, first_lsn, outcome, changes }
+}
+
+numbers! {
+    /// A row as recovery would leave it, and where its payload stands. An unfilled slot is all 0.
+    Row: 9 { number, place, filled, xmin, xmax, deleted, source, offset, length }
+}
+
+numbers! {
+    /// A visible row with its tuple's length, or none (all 0).
+    Visible: 6 { number, place, found, page, slot, length }
+}
+
+numbers! {
+    /// How many pages are free.
+    FreeMap: 3 { number, place, free }
+}
+
+numbers! {
+    /// What a step over the log finds. Where that is no entry, all after `next` are 0, and `next` is the place it
+    /// started from.
+    Step: 11 {
+        kind, next, offset, length, lsn, transaction, entry_type, table, key_len, old_len, new_len
+    }
+}
+
+/// Number and place of an answer that starts with them.
+macro_rules! verdicts {
+    ($($name:ident)+) => {
+        $(impl $name {
+            pub fn verdict(&self) -> Verdict {
+                Verdict::from([self.number, self.place])
+            }
+        })+
+    };
+}
+
+verdicts! { Answer Row Visible FreeMap }
+
+impl Row {
+    /// The payload as a part of what was lent.
+    pub fn payload<'a>(&self, pages: &'a [u8], log: &'a [u8]) -> &'a [u8] {
+        let lent = match self.source {
+            FROM_LOG => log,
+            FROM_PAGES => pages,
+            _ => &[],
+        };
+        &lent[self.offset as usize..][..self.length as usize]
+    }
+}
+
+/// Runs a call that fills an array of numbers. They start as a number that no answer holds, so that one which the call
+/// leaves unwritten is seen.
+fn filled<const N: usize, T: From<[u64; N]>>(call: impl FnOnce(*mut u64)) -> T {
+    let mut out = [u64::MAX; N];
+    call(out.as_mut_ptr());
+    T::from(out)
+}
+
+// Each call below lends whole slices with their own lengths and an array as long as the header says.
+
+/// The CRC32c of the bytes.
+pub fn crc32c(s: &[u8]) -> u32 {
+    unsafe { c::lq_crc32c(s.as_ptr(), s.len()) }
+}
+
+/// Where a reader of the log starts: byte 32, or the end found by walking. Refuses 2 and 3.
+pub fn log_open(log: &[u8], at_end: bool) -> Verdict {
+    filled(|out| unsafe { c::lq_log_open(log.as_ptr(), log.len(), at_end, out) })
+}
+
+/// What stands at a place of the log.
+pub fn log_forward(log: &[u8], place: u64) -> Step {
+    filled(|out| unsafe { c::lq_log_forward(log.as_ptr(), log.len(), place, out) })
+}
+
+/// The whole entry that ends at a place of the log, or none.
+pub fn log_backward(log: &[u8], place: u64) -> Step {
+    filled(|out| unsafe { c::lq_log_backward(log.as_ptr(), log.len(), place, out) })
+}
+
+/// Whether every page is good. Refuses 1 and 11.
+pub fn verify(magic: u64, pages: &[u8]) -> Verdict {
+    filled(|out| unsafe { c::lq_verify(magic, pages.as_ptr(), pages.len(), out) })
+}
+
+/// Mends the pages by the log and fills the table: four numbers a record, read by `records`. Refused, pages and table
+/// keep what they hold.
+pub fn recover(magic: u64, floor: u64, pages: &mut [u8], log: &[u8], table: &mut [u64]) -> Answer {
+    filled(|out| unsafe {
+        c::lq_recover(
+            magic,
+            floor,
+            pages.as_mut_ptr(),
+            pages.len(),
+            log.as_ptr(),
+            log.len(),
+            table.as_mut_ptr(),
+            table.len(),
+            out,
+        )
+    })
+}
+
+/// The records that a table holds.
+pub fn records(table: &[u64]) -> impl Iterator<Item = Record> + '_ {
+    table
+        .chunks_exact(RECORD_NUMBERS)
+        .map(|record| Record::from([record[0], record[1], record[2], record[3]]))
+}
+
+/// One row as recovery would leave it. Refuses as recovery does but for 10, then 15.
+pub fn read_row(magic: u64, floor: u64, pages: &[u8], log: &[u8], page: u64, slot: u16) -> Row {
+    filled(|out| unsafe {
+        c::lq_read_row(
+            magic,
+            floor,
+            pages.as_ptr(),
+            pages.len(),
+            log.as_ptr(),
+            log.len(),
+            page,
+            slot,
+            out,
+        )
+    })
+}
+
+/// The first visible row at or after a slot of a page, or none. Refuses 1 and 11.
+pub fn next_visible(magic: u64, pages: &[u8], page: u64, slot: u16) -> Visible {
+    filled(|out| unsafe { c::lq_next_visible(magic, pages.as_ptr(), pages.len(), page, slot, out) })
+}
+
+/// Writes one bit a page, 1 for a free one. Refuses 1, 11 and 16; the map then keeps what it holds.
+pub fn free_map(magic: u64, pages: &[u8], map: &mut [u8]) -> FreeMap {
+    filled(|out| unsafe {
+        c::lq_free_map(
+            magic,
+            pages.as_ptr(),
+            pages.len(),
+            map.as_mut_ptr(),
+            map.len(),
+            out,
+        )
+    })
+}

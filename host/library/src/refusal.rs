@@ -1,0 +1,63 @@
+//! The refusals of paper 01: numbers, names, what their places count and when they are given. The names are those of
+//! include/lumbraquay.h without LQ_.
+
+/// What the place of a refusal counts.
+#[derive(Clone, Copy, Debug, PartialEq, Eq)]
+pub enum Place {
+    /// Nothing: the place is 0.
+    Nothing,
+    /// Bytes from the log's start, to an entry.
+    LogOffset,
+    /// Pages from 0.
+    PageIndex,
+}
+
+#[derive(Clone, Copy, Debug)]
+pub struct Refusal {
+    pub number: u64,
+    pub name: &'static str,
+    pub place: Place,
+    /// When it is given.
+    pub when: &'static str,
+}
+
+macro_rules! refusals {
+    ($($number:literal $name:ident $place:ident $when:literal;)+) => {
+        $(pub const $name: u64 = $number;)+
+
+        /// Every refusal, by number from 1 on.
+        pub const REFUSALS: &[Refusal] = &[$(Refusal {
+            number: $number,
+            name: stringify!($name),
+            place: Place::$place,
+            when: $when,
+        }),+];
+    };
+}
+
+/// Not a refusal: the call did what it is for.
+pub const DONE: u64 = 0;
+
+refusals! {
+    1 PAGE_AREA Nothing "the page bytes are no multiple of 16,384, or there are over 4,096 pages";
+    2 LOG_TOO_LONG Nothing "the log has over 16,777,216 bytes";
+    3 LOG_HEADER Nothing "the log's header is short, does not start with WALN or is not of version 1";
+    4 ENTRY_DAMAGED LogOffset "a log entry is damaged: its length, its checksum or its inner lengths are wrong";
+    5 ENTRY_TYPE LogOffset "a log entry has a type other than 1 to 5, 7 and 10";
+    6 ENTRY_SHAPE LogOffset "a log entry has a key or a value that its type does not allow";
+    7 LSN_ORDER LogOffset "the LSN of a log entry is not above the one before it";
+    8 TRANSACTION_ORDER LogOffset "a log entry breaks the order of its transaction: a second Begin, or something of a transaction that is not open";
+    9 CLASH LogOffset "a change to a slot that another transaction, still open, has changed";
+    10 NO_RECORD LogOffset "a Begin for which the lent table has no record left";
+    11 PAGE_NOT_GOOD PageIndex "a page is not good: its magic, type, id, checksum or a slot is wrong";
+    12 PAGE_LSN PageIndex "a page's LSN is above the floor and above the last LSN of the log";
+    13 NO_DATA_PAGE LogOffset "a change to a page that is beyond the lent ones or not of type 1";
+    14 PAGE_OVERFULL PageIndex "the rows that belong on a page do not fit it";
+    15 NO_SUCH_PAGE Nothing "the row is asked for on a page that is not there";
+    16 MAP_SHORT Nothing "the lent free map is too short";
+}
+
+/// The refusal of a number, if there is one.
+pub fn refusal(number: u64) -> Option<&'static Refusal> {
+    REFUSALS.iter().find(|refusal| refusal.number == number)
+}

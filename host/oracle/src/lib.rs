@@ -1,0 +1,40 @@
+//! The rules for pages, log and recovery written out one by one, plainly and
+//! slowly, so that another program can be compared with this one.
+
+mod bytes;
+mod crc;
+mod examine;
+mod listing;
+mod log;
+mod log_rules;
+mod page;
+mod recovery;
+mod row;
+
+pub use crc::crc32c;
+pub use listing::{free_map, next_visible, verify, FreeMap, Verdict, Visible};
+pub use log::{backward, forward, log_open, EntryFields, Step};
+pub use recovery::{recover, Answer, Record};
+pub use row::{read_row, Row};
+
+/// A page is 16,384 bytes.
+pub const PAGE_BYTES: usize = 16384;
+
+/// More pages than this are refused with 1.
+pub const MAX_PAGES: usize = 4096;
+
+/// A log longer than this is refused with 2.
+pub const MAX_LOG_BYTES: usize = 16_777_216;
+
+/// A refusal: its number in the paper's table, and the place that goes with it.
+#[derive(Clone, Copy, Debug, PartialEq, Eq)]
+pub(crate) struct Refusal {
+    pub number: u64,
+    pub place: u64,
+}
+
+impl Refusal {
+    pub fn new(number: u64, place: u64) -> Refusal {
+        Refusal { number, place }
+    }
+}

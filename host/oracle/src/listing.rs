@@ -1,0 +1,116 @@
+//! What is done over magic and pages alone: verifying, listing visible rows and
+//! the map of free pages.
+
+use crate::page::{
+    check_page_bytes, check_pages_good, item_count, page_type, tuple_in_slot, DATA, FREE,
+};
+use crate::{Refusal, PAGE_BYTES};
+
+/// A number of the paper's table and the place that goes with it.
+#[derive(Clone, Copy, Debug, PartialEq, Eq, Default)]
+pub struct Verdict {
+    pub number: u64,
+    pub place: u64,
+}
+
+/// A visible row, or none (all 0).
+#[derive(Clone, Copy, Debug, PartialEq, Eq, Default)]
+pub struct Visible {
+    pub number: u64,
+    pub place: u64,
+    pub found: u64,
+    pub page: u64,
+    pub slot: u64,
+    pub length: u64,
+}
+
+/// How many pages are free.
+#[derive(Clone, Copy, Debug, PartialEq, Eq, Default)]
+pub struct FreeMap {
+    pub number: u64,
+    pub place: u64,
+    pub free: u64,
+}
+
+/// Refusals 1 and 11, in this order.
+fn check(magic: u64, pages: &[u8]) -> Result<(), Refusal> {
+    check_page_bytes(pages)?;
+    check_pages_good(magic, pages)
+}
+
+/// Whether the pages can be lent and are all good: 1, else 11 with the index of
+/// the first page that is not good, else 0.
+pub fn verify(magic: u64, pages: &[u8]) -> Verdict {
+    match check(magic, pages) {
+        Ok(()) => Verdict::default(),
+        Err(Refusal { number, place }) => Verdict { number, place },
+    }
+}
+
+/// The first row on a page of type 1 at or after a (page, slot) with deleted
+/// byte 0, in that order, with its page, slot and tuple length, or none.
+pub fn next_visible(magic: u64, pages: &[u8], page: u64, slot: u16) -> Visible {
+    if let Err(Refusal { number, place }) = check(magic, pages) {
+        return Visible {
+            number,
+            place,
+            ..Visible::default()
+        };
+    }
+    for (index, own) in pages.chunks_exact(PAGE_BYTES).enumerate() {
+        if page_type(own) != DATA {
+            continue;
+        }
+        for candidate in 0..item_count(own) {
+            if (index as u64, candidate) < (page, slot as usize) {
+                continue;
+            }
+            let Some((at, length)) = tuple_in_slot(own, candidate) else {
+                continue;
+            };
+            if own[at + 16] == 0 {
+                return Visible {
+                    number: 0,
+                    place: 0,
+                    found: 1,
+                    page: index as u64,
+                    slot: candidate as u64,
+                    length: length as u64,
+                };
+            }
+        }
+    }
+    Visible::default()
+}
+
+/// Bit i, lowest bit first, is 1 exactly if page i has type 4; whole needed
+/// bytes, spare bits 0, later bytes kept; the count of free pages is given
+/// back. Refuses 1, 11, 16 in this order.
+pub fn free_map(magic: u64, pages: &[u8], map: &mut [u8]) -> FreeMap {
+    let refused = |number, place| FreeMap {
+        number,
+        place,
+        free: 0,
+    };
+    if let Err(Refusal { number, place }) = check(magic, pages) {
+        return refused(number, place);
+    }
+    let page_count = pages.len() / PAGE_BYTES;
+    let needed = page_count.div_ceil(8);
+    if map.len() < needed {
+        return refused(16, 0);
+    }
+    map[..needed].fill(0);
+    let mut free = 0;
+    for (index, page) in pages.chunks_exact(PAGE_BYTES).enumerate() {
+        if page_type(page) == FREE {
+            map[index / 8] |= 1 << (index % 8);
+            free += 1;
+        }
+    }
+    FreeMap {
+        number: 0,
+        place: 0,
+        free,
+    }
+}
