@@ -1,2 +1,4 @@
 pub mod FlatLaws
 pub mod JudgeLaws
+pub mod Judging
+pub mod Outcome

@@ -1,0 +1,55 @@
+-- One page mended: as it was where it is untouched, else repacked.
+-- Assumes nothing.
+use mathlib.Core.Path.{_≡_, refl, sym}
+use Prim.Native.Nat.{ℕ, zero, suc, _+_, _-_, _*_, _<_}
+use native.Mathlib.Omega.{arith}
+use mathlib.Core.List.{List, append-assoc}
+use lib.ListN.{take, drop, getD, take-append-drop}
+use lib.Seq.{paste, take-take, drop-drop}
+use borrow.Author.Tests.{lt-ltb, le-ltb}
+use Rattle.wal.specs.Entry.{Entry}
+use Rattle.wal.specs.Walk.{entries}
+use Rattle.page.specs.Layout.{pageBytes, pageAt}
+use Rattle.rules.specs.Order.{one}
+use Rattle.rules.specs.Mend.{committed, topOf, repacked, unless, mendBy, mend}
+use Rattle.rules.specs.Recover.{isTouched}
+use Rattle.images.specs.Page.{PageCells}
+use Rattle.mend.proofs.Heads.{cells-of}
+
+-- a part, stored where it stands
+paste-own : (d : List ℕ) (a n : ℕ) → paste d a (take n (drop a d)) n ≡ d
+paste-own d a n =
+    rw (take-take n n (drop a d) (omega arith), append-assoc (take a d) (take n (drop a d)) (drop (a + n) d), ← drop-drop n a d, take-append-drop n (drop a d))
+    (take-append-drop a d)
+
+module _ (es : List Entry) (i : ℕ) where
+  unless-touched : (n : ℕ) (p q : List ℕ) → 0 < n → unless (committed es) es i n p q ≡ q
+  unless-touched zero p q h = absurd (omega arith)
+  unless-touched (suc n) p q h = refl
+
+  module _ (h : topOf i es ≡ 0) where
+    pub mend-untouched : (p : List ℕ) → mend es i p ≡ p
+    unfolding mend mendBy
+    mend-untouched p = rw h
+
+    pub one-untouched : 0 ≡ one (isTouched es i)
+    one-untouched = rw (le-ltb 0 (topOf i es) (omega arith))
+
+    pub paste-untouched : (d : List ℕ) → d ≡ paste d (i * pageBytes) (mend es i (pageAt i d)) pageBytes
+    paste-untouched d = rw (mend-untouched (pageAt i d)) (sym (paste-own d (i * pageBytes) pageBytes))
+
+  module _ (h : 0 < topOf i es) where
+    pub mend-touched : (p : List ℕ) → repacked (committed es) es i p ≡ mend es i p
+    unfolding mend mendBy
+    mend-touched p = sym (unless-touched (topOf i es) p (repacked (committed es) es i p) h)
+
+    pub one-touched : 1 ≡ one (isTouched es i)
+    one-touched = rw (lt-ltb 0 (topOf i es) h)
+
+-- whether the page is touched, as code tests it
+module _ {s : List ℕ} {lo i : ℕ} {starts cells : List ℕ} (k : PageCells s lo i starts cells) where
+  pub no-cells : getD starts i 0 ≡ getD starts (i + 1) 0 → topOf i (entries s) ≡ 0
+  no-cells e = omega (arith, cells-of k)
+
+  pub some-cells : (getD starts i 0 ≡ getD starts (i + 1) 0 → ⊥) → 0 < topOf i (entries s)
+  some-cells e = omega (arith, cells-of k)

@@ -1,0 +1,111 @@
+-- What judging tells, refusal by refusal, and what an accepted log and accepted pages are. Assumes nothing.
+use Prim.Native.Nat.{ℕ, zero, suc, _+_, _*_, _%_, _/_, _≤_, _<_}
+use mathlib.Core.Path.{_≡_, refl, sym, ap, _∙_, subst}
+use mathlib.Core.Bool.{Bool, true, false}
+use mathlib.Core.List.{List, [], _∷_, _++_}
+use native.Mathlib.Omega.{arith}
+use lib.ListN.{length}
+use lib.Dec.{ltb, eqb}
+use borrow.Author.Tests.{eq-eqb, ne-eqb}
+use Rattle.endian.specs.Pick.{pick}
+use Rattle.wal.specs.Entry.{Entry}
+use Rattle.wal.specs.Read.{first}
+use Rattle.wal.specs.Walk.{entries, endOf}
+use Rattle.wal.proofs.Prefix.{met-end, before-end}
+use Rattle.page.specs.Layout.{pageBytes, pagesIn, pageAt}
+use Rattle.page.specs.Fault.{verdict, accepted, sizeWrong}
+use Rattle.page.specs.Good.{Good}
+use Rattle.page.specs.declared.Verdict.{Verdict}
+use Rattle.page.proofs.FaultLaws.{sound-good}
+use Rattle.page.proofs.Verdicts.{page-length, right-size}
+use Rattle.rules.specs.Order.{lastLsn, logVerdict, neverFull}
+use Rattle.rules.specs.Mend.{topOf}
+use Rattle.rules.specs.Recover.{pagesFrom, strayFrom, tightFrom, recoverVerdict}
+use Rattle.rules.proofs.OrderLaws.{InTurn, in-turn}
+use Rattle.rules.proofs.Verdicts.{Sane, pages-sane, Lent, lent-all, stray-none, Accepted, is-accepted}
+use Rattle.order.specs.First.{told}
+use Rattle.order.specs.declared.Walked.{Walked}
+use Rattle.fates.specs.Fate.{Ordered}
+use Rattle.cells.specs.Measure.{Sound as Rises}
+use Rattle.cells.proofs.Soundness.{Rising, sound-of}
+use Rattle.checks.specs.Judged.{Judged}
+use Rattle.images.specs.Page.{Sound, Touched, Fitting}
+use Rattle.recovery.specs.Judgement.{Judgement}
+use Rattle.recovery.proofs.JudgeLaws.{judge-log}
+
+told-refused : (n at : ℕ) → (n ≡ 0 → ⊥) → told n at ≡ verdict n at
+told-refused n at h = rw (ne-eqb n 0 h)
+
+-- ---- what an accepted log is
+
+rising : (full : ℕ → Bool) (es fs : List Entry) → InTurn full es fs → Rising es fs
+rising full es [] h = tt
+rising full es (f ∷ fs) h = ((h .0 .shaped, h .0 .rises), rising full (es ++ (f ∷ [])) fs (h .1))
+
+pub rises-ok : (log : List ℕ) → Ordered log → Rises log (endOf log)
+rises-ok log o = sound-of (met-end log) (rw (before-end log) (rising neverFull [] (entries log) (in-turn neverFull [] (entries log) first o)))
+
+-- ---- the size of the page area
+
+pub size-rest : (pages : List ℕ) → (length pages % pageBytes ≡ 0 → ⊥) → true ≡ sizeWrong pages
+unfolding sizeWrong
+size-rest pages h = rw (ne-eqb _ 0 h)
+
+pub size-many : (pages : List ℕ) → length pages % pageBytes ≡ 0 → ltb 4096 (pagesIn pages) ≡ sizeWrong pages
+unfolding sizeWrong
+size-many pages h = rw (eq-eqb _ 0 h)
+
+-- ---- what accepted pages are
+
+pub size-is : (pages : List ℕ) → sizeWrong pages ≡ false → (length pages ≡ pagesIn pages * pageBytes) × (pagesIn pages ≤ 4096)
+size-is pages h = let r = right-size pages h in (omega (arith, r .0), r .1)
+
+-- each touched page is lent, good and a Data page
+pub touched-ok : (magic floor last : ℕ) (pages log : List ℕ) (n : ℕ) → n ≡ pagesIn pages → pagesFrom magic floor last pages (pagesIn pages) 0 .number ≡ 0
+    → strayFrom pages (entries log) first .number ≡ 0 → Touched log pages 0 n
+touched-ok magic floor last pages log n e p s =
+    record {
+      at = λ i a b t.
+          let l = lent-all pages i (entries log) (stray-none pages (entries log) first s) t in
+          let z = pages-sane magic floor last pages (pagesIn pages) 0 p i (omega arith) (omega (arith, l .lent)) in
+          let y = page-length pages i (l .lent) in
+          record { size = y; good = sound-good magic i (pageAt i pages) y (z .sound) .dataGood (l .isData) };
+    }
+
+-- ---- the verdict, told
+
+pub log-ok : {full : ℕ → Bool} {log : List ℕ} {n : ℕ} {starts lasts : List ℕ} {w : Walked} → Judged full log n starts lasts w → w .number ≡ 0 → logVerdict full log .number ≡ 0
+log-ok {full} {log} {n} {starts} {lasts} {w} j z = sym (ap (λ (v : Verdict). v .number) (j .verdict)) ∙ rw (eq-eqb (w .number) 0 z)
+
+module _ (full : ℕ → Bool) (magic floor : ℕ) (pages log starts lasts : List ℕ) where
+  pub judged-refused : (n at : ℕ) → (n ≡ 0 → ⊥) → verdict n at ≡ recoverVerdict full magic floor pages log
+      → Judgement full magic floor pages log starts lasts (record { number = n; place = at; last = record { 0 = 0 } })
+  judged-refused n at h e =
+      record {
+        verdict = told-refused n at h ∙ e;
+        end = λ z. absurd (h z);
+        last = λ z. absurd (h z);
+        begin = λ z. absurd (h z);
+        touched = λ z. absurd (h z);
+      }
+
+  module _ (n : ℕ) (w : Walked) (j : Judged full log n starts lasts w) where
+    pub judged-log : sizeWrong pages ≡ false → (w .number ≡ 0 → ⊥) → Judgement full magic floor pages log starts lasts w
+    judged-log size h =
+        record {
+          verdict = judge-log full magic floor pages log size (told (w .number) (w .place)) (j .verdict) (λ z. h (sym (ap (λ (v : Verdict). v .number) (told-refused (w .number) (w .place) h)) ∙ z));
+          end = λ z. absurd (h z);
+          last = λ z. absurd (h z);
+          begin = λ z. absurd (h z);
+          touched = λ z. absurd (h z);
+        }
+
+    pub judged-all : w .number ≡ 0 → n ≡ pagesIn pages → accepted ≡ recoverVerdict full magic floor pages log → Judgement full magic floor pages log starts lasts w
+    judged-all z e v =
+        record {
+          verdict = rw (eq-eqb (w .number) 0 z) v;
+          end = j .end;
+          last = j .last;
+          begin = rw e at (j .begin);
+          touched = rw e at (j .touched);
+        }

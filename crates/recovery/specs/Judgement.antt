@@ -1,0 +1,42 @@
+-- What is known once refusals 1 to 14 have been looked for.
+use Prim.Native.Nat.{ℕ}
+use mathlib.Core.Path.{_≡_}
+use mathlib.Core.Bool.{Bool}
+use mathlib.Core.List.{List}
+use Rattle.wal.specs.Walk.{entries, endOf}
+use Rattle.page.specs.Layout.{pagesIn}
+use Rattle.rules.specs.Order.{lastLsn}
+use Rattle.rules.specs.Recover.{recoverVerdict}
+use Rattle.rules.specs.declared.Answer.{Answer}
+use Rattle.endian.specs.declared.Lsn.{Lsn}
+use Rattle.order.specs.First.{told}
+use Rattle.order.specs.declared.Walked.{Walked}
+use Rattle.tally.specs.declared.Tally.{Tally}
+use Rattle.cells.specs.Cell.{Starts}
+use Rattle.cells.specs.Measure.{Lasts}
+
+-- the verdict; accepted, where the log ends and its last LSN, where the cells of pages start, and the places of the last changes on them
+pub record Judgement (full : ℕ → Bool) (magic floor : ℕ) (pages log starts lasts : List ℕ) (w : Walked) : Type 0 where
+  pub verdict : told (w .number) (w .place) ≡ recoverVerdict full magic floor pages log
+  pub end : w .number ≡ 0 → w .place ≡ endOf log
+  pub last : w .number ≡ 0 → w .last .0 ≡ lastLsn (entries log)
+  pub begin : w .number ≡ 0 → Starts (entries log) (pagesIn pages) starts
+  pub touched : w .number ≡ 0 → Lasts log (endOf log) (pagesIn pages) lasts
+
+-- the answer of a recovery that is done: last LSN, end of the log, counts, pages rewritten
+abbrev pub answerFrom : Lsn → ℕ → Tally → ℕ → Answer
+answerFrom last end c rewritten =
+    record {
+      number = 0;
+      place = 0;
+      «last_lsn» = last;
+      tail = end;
+      committed = c .committed;
+      «rolled_back» = c .«rolled_back»;
+      unended = c .unended;
+      «changes_committed» = c .«changes_committed»;
+      «changes_rolled_back» = c .«changes_rolled_back»;
+      «changes_unended» = c .«changes_unended»;
+      «changes_zero» = c .«changes_zero»;
+      rewritten = rewritten;
+    }

@@ -1,0 +1,122 @@
+// Recovery but for its table: judged, counted, mended.
+ghost use mathlib.Core.Path.{_≡_};
+ghost use mathlib.Core.List.{[]};
+ghost use Rattle.crc32c.specs.Tables.{Tables};
+ghost use Rattle.rules.specs.Order.{fullAt};
+ghost use Rattle.rules.specs.Recover.{recoverVerdict, recoverBy, refused};
+ghost use Rattle.page.specs.Fault.{verdict};
+ghost use Rattle.fates.specs.Fate.{Memo};
+ghost use Rattle.recovery.specs.Judgement.{answerFrom};
+use crate::judge::judge;
+use crc32c::inner::tables;
+use endian::Lsn;
+use mend::inner::mend_all;
+use order::Walked;
+use page::PAGE_BYTES;
+use rules::Answer;
+use tally::Tally;
+use tally::inner::tally;
+
+// The answer of a refusal.
+fn refused_by(number: u64, place: u64) -> Answer
+    ensures { λ r. ⌜ r ≡ refused (verdict number place) ⌝ }
+{
+    Answer {
+        number: number,
+        place: place,
+        last_lsn: Lsn(0),
+        tail: 0,
+        committed: 0,
+        rolled_back: 0,
+        unended: 0,
+        changes_committed: 0,
+        changes_rolled_back: 0,
+        changes_unended: 0,
+        changes_zero: 0,
+        rewritten: 0,
+    }
+}
+
+// The answer of a recovery that is done.
+fn done_by(last: Lsn, end: usize, c: Tally, rewritten: u64) -> Answer
+    ensures { λ r. ⌜ r ≡ answerFrom last end c rewritten ⌝ }
+{
+    Answer {
+        number: 0,
+        place: 0,
+        last_lsn: last,
+        tail: end as u64,
+        committed: c.committed,
+        rolled_back: c.rolled_back,
+        unended: c.unended,
+        changes_committed: c.changes_committed,
+        changes_rolled_back: c.changes_rolled_back,
+        changes_unended: c.changes_unended,
+        changes_zero: c.changes_zero,
+        rewritten: rewritten,
+    }
+}
+
+// Judges, and where nothing is refused counts and mends.
+fn run(
+    t: &[u32; 2048],
+    magic: u64,
+    floor: Lsn,
+    pages: &mut [u8],
+    log: &[u8],
+    records: u64,
+    starts: &mut [u32; 4097],
+    lasts: &mut [u32; 4096],
+    cells: &mut [u32; 131072],
+    memo: &mut [u32; 16384],
+) -> Answer
+    requires { ⌜ Tables (now t) ⌝ }
+    requires { ⌜ Memo (now log) (now memo) ⌝ }
+    ensures { λ r. ⌜ r ≡ recoverBy (recoverVerdict (fullAt records) magic (floor .0) (now (pages .entry)) (now (log .entry))) (now (pages .entry)) (now (log .entry)) [] .answer ⌝ }
+    ensures { λ _. ⌜ now (pages .exit) ≡ recoverBy (recoverVerdict (fullAt records) magic (floor .0) (now (pages .entry)) (now (log .entry))) (now (pages .entry)) (now (log .entry)) [] .pages ⌝ }
+{
+    let w = judge(
+        t,
+        magic,
+        floor,
+        pages,
+        log,
+        true,
+        records,
+        starts,
+        lasts,
+        cells,
+        memo,
+    );
+    if w.number != 0 {
+        return refused_by(w.number, w.place as u64);
+    }
+    let c = tally(log, w.place, memo);
+    let n = pages.len() / PAGE_BYTES;
+    let rewritten = mend_all(t, log, w.place, pages, n, starts, lasts, cells, memo);
+    done_by(w.last, w.place, c, rewritten)
+}
+
+// Recovery for a table of so many records, which is not written.
+pub fn recover(magic: u64, floor: Lsn, pages: &mut [u8], log: &[u8], records: u64) -> Answer
+    ensures { λ r. ⌜ r ≡ recoverBy (recoverVerdict (fullAt records) magic (floor .0) (now (pages .entry)) (now (log .entry))) (now (pages .entry)) (now (log .entry)) [] .answer ⌝ }
+    ensures { λ _. ⌜ now (pages .exit) ≡ recoverBy (recoverVerdict (fullAt records) magic (floor .0) (now (pages .entry)) (now (log .entry))) (now (pages .entry)) (now (log .entry)) [] .pages ⌝ }
+{
+    let t = tables();
+    let mut starts = [0u32; 4097];
+    let mut lasts = [0u32; 4096];
+    let mut cells = [0u32; 131072];
+    let mut memo = [0u32; 16384];
+    run(
+        &t,
+        magic,
+        floor,
+        pages,
+        log,
+        records,
+        &mut starts,
+        &mut lasts,
+        &mut cells,
+        &mut memo,
+    )
+}

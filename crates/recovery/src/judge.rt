@@ -1,0 +1,77 @@
+// Refusals 1 to 14, before anything lent is written.
+ghost use mathlib.Core.Path.{_≡_};
+ghost use Rattle.crc32c.specs.Tables.{Tables};
+ghost use Rattle.page.specs.Fault.{sizeWrong};
+ghost use Rattle.order.specs.First.{fullOf};
+ghost use Rattle.fates.specs.Fate.{Memo};
+ghost use Rattle.recovery.specs.Judgement.{Judgement};
+use checks::inner::judge_log;
+use checks::inner::judge_pages;
+use checks::inner::stray;
+use endian::Lsn;
+use order::Walked;
+use page::PAGE_BYTES;
+use page::PAGE_LIMIT;
+use room::inner::tight;
+
+// Whether page bytes are no multiple of a page's, or too many pages.
+fn size_wrong(pages: &[u8]) -> bool
+    ensures { λ r. ⌜ r ≡ sizeWrong (now (pages .entry)) ⌝ }
+{
+    if pages.len() % PAGE_BYTES != 0 {
+        return true;
+    }
+    PAGE_LIMIT < pages.len() / PAGE_BYTES
+}
+
+fn refusal(number: u64, place: usize) -> Walked
+    ensures { λ r. ⌜ r ≡ record { number = number; place = place; last = record { 0 = 0 } } ⌝ }
+{
+    Walked {
+        number: number,
+        place: place,
+        last: Lsn(0),
+    }
+}
+
+// The first refusal, or where the log ends; `bounded` says whether only so many records are lent.
+pub fn judge(
+    t: &[u32; 2048],
+    magic: u64,
+    floor: Lsn,
+    pages: &[u8],
+    log: &[u8],
+    bounded: bool,
+    records: u64,
+    starts: &mut [u32; 4097],
+    lasts: &mut [u32; 4096],
+    cells: &mut [u32; 131072],
+    memo: &mut [u32; 16384],
+) -> Walked
+    requires { ⌜ Tables (now t) ⌝ }
+    requires { ⌜ Memo (now log) (now memo) ⌝ }
+    ensures { λ r. ⌜ Judgement (fullOf bounded records) magic (floor .0) (now (pages .entry)) (now (log .entry)) (now (starts .exit)) (now (lasts .exit)) r ⌝ }
+    ensures { λ _. ⌜ Memo (now (log .entry)) (now (memo .exit)) ⌝ }
+{
+    if size_wrong(pages) {
+        return refusal(1, 0);
+    }
+    let n = pages.len() / PAGE_BYTES;
+    let w = judge_log(t, log, n, bounded, records, starts, lasts, cells);
+    if w.number != 0 {
+        return w;
+    }
+    let v = judge_pages(t, magic, floor, w.last, pages, n);
+    if v.number != 0 {
+        return refusal(v.number, v.place as usize);
+    }
+    let at = stray(log, w.place, pages, n);
+    if at < w.place {
+        return refusal(13, at);
+    }
+    let i = tight(log, w.place, pages, n, starts, cells, memo);
+    if i < n {
+        return refusal(14, i);
+    }
+    w
+}
