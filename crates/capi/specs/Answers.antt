@@ -8,6 +8,7 @@ use Rattle.wal.specs.declared.Reading.{Reading}
 use Rattle.wal.specs.declared.Reading.the-variants.{Whole, End, Torn, Damage}
 use Rattle.wal.specs.declared.Before.{Before}
 use Rattle.wal.specs.declared.Before.the-variants.{Found, Nothing}
+use Rattle.rules.specs.declared.Answer.{Answer}
 use Rattle.page.specs.Fault.{verdictOf}
 use Rattle.page.specs.Rows.{nextRow}
 use Rattle.page.specs.FreeMap.{mapVerdict, freeCount}
@@ -77,3 +78,11 @@ unfoldable pub freeMapNumbers : ℕ → List ℕ → List ℕ → List ℕ
 freeMapNumbers magic pages map =
     let v = mapVerdict magic pages map in
     v .number ∷ v .place ∷ freeCount magic pages map ∷ []
+
+-- ---- recovery
+
+-- lq_recover: number, place, last LSN, tail offset, transactions committed, rolled back, unended, changes of each of these and of transaction 0, pages rewritten
+abbrev pub answerNumbers : Answer → List ℕ
+answerNumbers a =
+    a .number ∷ a .place ∷ a .«last_lsn» .0 ∷ a .tail ∷ a .committed ∷ a .«rolled_back» ∷ a .unended
+    ∷ a .«changes_committed» ∷ a .«changes_rolled_back» ∷ a .«changes_unended» ∷ a .«changes_zero» ∷ a .rewritten ∷ []

@@ -4,9 +4,12 @@ ghost use Rattle.crc32c.specs.Crc.{crc32c as crcOf};
 ghost use Rattle.wal.specs.Read.{found};
 ghost use Rattle.wal.specs.declared.Before.the-variants.{Found, Nothing};
 ghost use Rattle.page.specs.FreeMap.{mapAfter};
-ghost use Rattle.capi.specs.Answers.{openNumbers, stepNumbers, kindForward, kindBackward, forwardNumbers, backwardNumbers, verifyNumbers, rowNumbers, nextVisibleNumbers, freeMapNumbers};
+ghost use Rattle.capi.specs.Answers.{openNumbers, stepNumbers, kindForward, kindBackward, forwardNumbers, backwardNumbers, verifyNumbers, rowNumbers, nextVisibleNumbers, freeMapNumbers, answerNumbers};
+ghost use Rattle.recovery.specs.Flat.{recoverFlat};
+use endian::Lsn;
 use endian::PageNumber;
 use page::NextRow;
+use rules::Answer;
 use wal::Before;
 use wal::EntryView;
 use wal::Reading;
@@ -148,4 +151,43 @@ pub extern "C" fn lq_free_map(magic: u64, pages: &[u8], map: &mut [u8], out: &mu
 {
     let made = page::free_map(magic, pages, map);
     *out = [made.verdict.number, made.verdict.place, made.free];
+}
+
+// The numbers of an answer.
+fn answer_numbers(a: Answer) -> [u64; 12]
+    ensures { λ r. ⌜ r ≡ answerNumbers a ⌝ }
+{
+    let last = a.last_lsn;
+    [
+        a.number,
+        a.place,
+        last.0,
+        a.tail,
+        a.committed,
+        a.rolled_back,
+        a.unended,
+        a.changes_committed,
+        a.changes_rolled_back,
+        a.changes_unended,
+        a.changes_zero,
+        a.rewritten,
+    ]
+}
+
+// Recovery: the pages mended, the table filled with four numbers for each record, and the answer.
+#[no_mangle]
+pub extern "C" fn lq_recover(
+    magic: u64,
+    floor: u64,
+    pages: &mut [u8],
+    log: &[u8],
+    table: &mut [u64],
+    out: &mut [u64; 12],
+)
+    ensures { λ _. ⌜ now (out .exit) ≡ answerNumbers (recoverFlat magic floor (now (pages .entry)) (now (log .entry)) (now (table .entry)) .answer) ⌝ }
+    ensures { λ _. ⌜ now (pages .exit) ≡ recoverFlat magic floor (now (pages .entry)) (now (log .entry)) (now (table .entry)) .pages ⌝ }
+    ensures { λ _. ⌜ now (table .exit) ≡ recoverFlat magic floor (now (pages .entry)) (now (log .entry)) (now (table .entry)) .table ⌝ }
+{
+    let a = recovery::recover_flat(magic, Lsn(floor), pages, log, table);
+    *out = answer_numbers(a);
 }
