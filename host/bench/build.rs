@@ -11,5 +11,8 @@ fn main() {
     });
     println!("cargo:rustc-link-search=native={}", dir.display());
     println!("cargo:rustc-link-lib=static=timed");
-    println!("cargo:rerun-if-changed={}", dir.join("libtimed.a").display());
+    println!(
+        "cargo:rerun-if-changed={}",
+        dir.join("libtimed.a").display()
+    );
 }

@@ -2,3 +2,6 @@ pub mod FlatLaws
 pub mod JudgeLaws
 pub mod Judging
 pub mod Outcome
+pub mod Spots
+pub mod Heads
+pub mod RowLaws

@@ -10,7 +10,7 @@ use borrow.Author.Tests.{eq-eqb, ne-eqb, eqb-true}
 use Rattle.endian.specs.declared.Lsn.{Lsn}
 use Rattle.wal.specs.Entry.{Entry}
 use Rattle.wal.specs.Walk.{entries, endOf}
-use Rattle.page.specs.Layout.{pageBytes, pagesIn, pageAt}
+use Rattle.page.specs.Layout.{pageBytes, dataType, pagesIn, pageAt, typeOf}
 use Rattle.page.specs.Fault.{verdict, accepted}
 use Rattle.page.specs.declared.Verdict.{Verdict}
 use Rattle.page.proofs.FaultLaws.{sound-good}
@@ -72,6 +72,13 @@ module _ {full : ℕ → Bool} {magic floor : ℕ} {pages log starts lasts : Lis
         rw (by-done (recoverVerdict full magic floor pages log) pages log table (verdict-zero z)) (rw (l, j .end z) (done-is (entries log) (endOf log) (pagesIn pages)), refl)
 
 -- ---- what acceptance tells
+
+pub sound-page : (full : ℕ → Bool) (magic floor : ℕ) (pages log : List ℕ) → recoverVerdict full magic floor pages log .number ≡ 0 → (i : ℕ) → i < pagesIn pages
+    → typeOf (pageAt i pages) ≡ dataType → Sound (pageAt i pages)
+sound-page full magic floor pages log h i l d =
+    let a = is-accepted full magic floor pages log h in
+    let y = page-length pages i l in
+    record { size = y; good = sound-good magic i (pageAt i pages) y (a .sane i l .sound) .dataGood d }
 
 pub record Sure (log pages : List ℕ) : Type 0 where
   pub ordered : Ordered log

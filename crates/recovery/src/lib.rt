@@ -6,13 +6,34 @@ ghost use Rattle.wal.specs.Walk.{entries, endOf};
 ghost use Rattle.rules.specs.Order.{count, isBegin};
 ghost use Rattle.fates.specs.Fate.{Ordered};
 ghost use Rattle.tally.specs.Flat.{flatAfter};
+ghost use Rattle.rules.specs.Row.{rowOf, rowPayload};
 ghost use Rattle.recovery.specs.Flat.{recoverFlat};
+ghost use Rattle.recovery.specs.Spot.{Lying};
 use endian::Lsn;
+use endian::PageNumber;
+use images::Image;
 use rules::Answer;
+use rules::RowHead;
 use tally::inner::fill_flat;
 
 mod core;
 mod judge;
+mod row;
+
+// A verdict, and where the tuple of a slot stands in the log or in the page area; no tuple has no bytes.
+pub struct Spot {
+    pub number: u64,
+    pub place: u64,
+    pub image: Image,
+}
+
+// A row's header, and where its payload stands: source 1 the log, 2 the pages, 0 nowhere.
+pub struct Located {
+    pub head: RowHead,
+    pub source: u64,
+    pub offset: u64,
+    pub length: u64,
+}
 
 // Fills a table of numbers with the records of an accepted log.
 fn fill_table(log: &[u8], end: usize, table: &mut [u64])
@@ -42,4 +63,50 @@ pub fn recover_flat(
         fill_table(log, a.tail as usize, table);
     }
     a
+}
+
+// A row as recovery would leave it: its header.
+pub fn read_row(
+    magic: u64,
+    floor: Lsn,
+    pages: &[u8],
+    log: &[u8],
+    page: PageNumber,
+    slot: u16,
+) -> RowHead
+    ensures { λ r. ⌜ r ≡ rowOf magic (floor .0) (now (pages .entry)) (now (log .entry)) (page .0) slot ⌝ }
+{
+    let s = row::find(magic, floor, pages, log, page.0, slot as usize);
+    row::head(log, pages, s)
+}
+
+// Its payload, as a part of whichever of log and pages holds the winning image.
+pub fn row_payload<'a>(
+    magic: u64,
+    floor: Lsn,
+    pages: &'a [u8],
+    log: &'a [u8],
+    page: PageNumber,
+    slot: u16,
+) -> &'a [u8]
+    ensures { λ r. ⌜ now r ≡ rowPayload magic (floor .0) (now (pages .entry)) (now (log .entry)) (page .0) slot ⌝ }
+{
+    let s = row::find(magic, floor, pages, log, page.0, slot as usize);
+    let m = s.image;
+    row::payload(log, pages, m)
+}
+
+// Both at once: the header, and where the payload stands.
+pub fn locate_row(
+    magic: u64,
+    floor: Lsn,
+    pages: &[u8],
+    log: &[u8],
+    page: PageNumber,
+    slot: u16,
+) -> Located
+    ensures { λ r. ⌜ Lying magic (floor .0) (now (pages .entry)) (now (log .entry)) (page .0) slot r ⌝ }
+{
+    let s = row::find(magic, floor, pages, log, page.0, slot as usize);
+    row::locate(log, pages, s)
 }
