@@ -33,7 +33,7 @@ PRAGMA journal_mode = WAL;
 PRAGMA synchronous = OFF;
 CREATE TABLE orders(id INTEGER PRIMARY KEY, payload BLOB);
 WITH RECURSIVE n(i) AS (SELECT 1 UNION ALL SELECT i + 1 FROM n WHERE i < $rows)
-    INSERT INTO orders SELECT i, randomblob(196) FROM n;
+    INSERT INTO orders SELECT i, randomblob(193) FROM n;
 PRAGMA wal_checkpoint(TRUNCATE);
 SQL
 made=$(sqlite3 "$dir/made" "PRAGMA page_count")
@@ -48,7 +48,7 @@ exec 3>"$dir/words"
     echo "PRAGMA synchronous = OFF; PRAGMA wal_autocheckpoint = 0;"
     awk -v frames="$frames" -v rows="$rows" 'BEGIN {
         for (k = 0; k < frames; k++)
-            printf "UPDATE orders SET payload = randomblob(196) WHERE id = %d;\n", 1 + (k * 7919 * 80) % rows
+            printf "UPDATE orders SET payload = randomblob(193) WHERE id = %d;\n", 1 + (k * 7919 * 80) % rows
     }'
     echo ".print done"
 } >&3

@@ -4,11 +4,12 @@ ghost use Rattle.crc32c.specs.Crc.{crc32c as crcOf};
 ghost use Rattle.wal.specs.Read.{found};
 ghost use Rattle.wal.specs.declared.Before.the-variants.{Found, Nothing};
 ghost use Rattle.page.specs.FreeMap.{mapAfter};
-ghost use Rattle.capi.specs.Answers.{openNumbers, stepNumbers, kindForward, kindBackward, forwardNumbers, backwardNumbers, verifyNumbers, rowNumbers, nextVisibleNumbers, freeMapNumbers, answerNumbers};
+ghost use Rattle.capi.specs.Answers.{openNumbers, stepNumbers, kindForward, kindBackward, forwardNumbers, backwardNumbers, verifyNumbers, rowNumbers, nextVisibleNumbers, freeMapNumbers, answerNumbers, locatedNumbers, RowWritten};
 ghost use Rattle.recovery.specs.Flat.{recoverFlat};
 use endian::Lsn;
 use endian::PageNumber;
 use page::NextRow;
+use recovery::Located;
 use rules::Answer;
 use wal::Before;
 use wal::EntryView;
@@ -190,4 +191,41 @@ pub extern "C" fn lq_recover(
 {
     let a = recovery::recover_flat(magic, Lsn(floor), pages, log, table);
     *out = answer_numbers(a);
+}
+
+// The numbers of a row that is located.
+fn located_numbers(l: Located) -> [u64; 9]
+    ensures { λ r. ⌜ r ≡ locatedNumbers l ⌝ }
+{
+    let h = l.head;
+    let xmin = h.xmin;
+    let xmax = h.xmax;
+    [
+        h.number,
+        h.place,
+        h.filled as u64,
+        xmin.0,
+        xmax.0,
+        h.deleted as u64,
+        l.source,
+        l.offset,
+        l.length,
+    ]
+}
+
+// A row as recovery would leave it, and where its payload stands.
+#[no_mangle]
+pub extern "C" fn lq_read_row(
+    magic: u64,
+    floor: u64,
+    pages: &[u8],
+    log: &[u8],
+    page: u64,
+    slot: u16,
+    out: &mut [u64; 9],
+)
+    ensures { λ _. ⌜ RowWritten magic floor (now (pages .entry)) (now (log .entry)) page slot (now (out .exit)) ⌝ }
+{
+    let l = recovery::locate_row(magic, Lsn(floor), pages, log, PageNumber(page), slot);
+    *out = located_numbers(l);
 }
