@@ -19,7 +19,7 @@ use Rattle.wal.specs.declared.EntryView.{EntryView}
 use Rattle.wal.specs.declared.Reading.the-variants.{Whole, Torn}
 use Rattle.wal.proofs.WalkLaws.{not-torn}
 use Rattle.wal.proofs.Encoding.{entries-encoded, end-encoded, entries-log}
-use Rattle.page.specs.Layout.{pagesIn, pageAt, slotAt}
+use Rattle.page.specs.Layout.{dataType, pagesIn, pageAt, typeOf, slotAt}
 use Rattle.page.specs.Good.{TupleGood}
 use Rattle.rules.specs.Shape.{Change, both, isKnown, isChange, isChanging, isImage, same, isKeyed, isBare, isShaped, pageOf, slotOf, beforeOf, afterOf, isOn, effectOn, topOn, sameSlot}
 use Rattle.rules.specs.Order.{begun, ended, isOpen, inOrder, clashes, faultAfter, orderFrom}
@@ -33,7 +33,7 @@ use Rattle.cases.specs.Build.{begins, commits, inserts, updates, magic, 
 use Rattle.cases.specs.Starred.{a, b, c, noRecord}
 use Rattle.cases.specs.Example.{before, steps, whole, log, cut, moment, stood}
 use Rattle.cases.proofs.Parts.{tuple-bytes, bare, insertable, updatable}
-use Rattle.cases.proofs.Area.{PageOk, EachPage, pages-in, page-at, slot-of}
+use Rattle.cases.proofs.Area.{PageOk, EachPage, pages-in, page-at, slot-of, type-of}
 use Rattle.cases.proofs.Pages.{Says, Computes, number}
 
 -- ---- pages
@@ -66,9 +66,9 @@ first-1 k = ap (λ (p : List ℕ). slotAt p k) (page-at (page 0 (a ∷ []) ∷ p
 -- ---- the history
 
 -- a change finds its before-image if its own slot holds it
-finds : (s : State) (e : Entry) → s .slot (pageOf e) (slotOf e) ≡ beforeOf e → (i k : ℕ) → Finds (s .slot i k) (effectOn i k e)
+finds : (s : State) (e : Entry) → s .slot (pageOf e) (slotOf e) ≡ beforeOf e → (i k : ℕ) → typeOf (pageAt i before) ≡ dataType → Finds (s .slot i k) (effectOn i k e)
 unfolding effectOn isOn
-finds s e h i k = go (isChange e) (eqb (pageOf e) i) (eqb (slotOf e) k) refl refl
+finds s e h i k d = go (isChange e) (eqb (pageOf e) i) (eqb (slotOf e) k) refl refl
   where
     go : (x y z : Bool) → eqb (pageOf e) i ≡ y → eqb (slotOf e) k ≡ z
         → Finds (s .slot i k) (pick {A = List Change} (both (both x y) z) (record { by = e .txn; before = beforeOf e; after = afterOf e } ∷ []) [])
@@ -107,21 +107,21 @@ all-encodable =
 abbrev at : ℕ → State
 at n = run (start before) (take n steps)
 
-honest : Honest (start before) steps
+honest : Honest (λ i. typeOf (pageAt i before) ≡ dataType) (start before) steps
 unfolding effectOn isOn isChanging beforeOf afterOf numberAt numberOf bytesOf
 honest = (
-  λ i k. tt,
+  λ i k d. tt,
   (
     finds (at 1) (updates 2 7 0 0 a b) (first-0 0),
     (
-      λ i k. tt,
+      λ i k d. tt,
       (
-        λ i k. tt,
+        λ i k d. tt,
         (
           finds (at 4) (inserts 5 8 1 0 a) (first-1 0),
           (
-            λ i k. tt,
-            (finds (at 6) (updates 7 9 0 0 b c) refl, (finds (at 7) (inserts 8 9 0 1 a) (first-0 1), (λ i k. tt, tt))),
+            λ i k d. tt,
+            (finds (at 6) (updates 7 9 0 0 b c) refl, (finds (at 7) (inserts 8 9 0 1 a) (first-0 1), (λ i k d. tt, tt))),
           ),
         ),
       ),
@@ -153,8 +153,13 @@ slot-1 (suc k) = sym (untouched 1 (suc k) (start before) (take 5 steps) (λ t. r
 
 pub stands : Stands example moment stood
 unfolding example
-stands = record { slots = λ i k l d. each i k l }
+stands = record { type = λ i l d. data-page i l; slots = λ i k l d. each i k l }
   where
+    data-page : (i : ℕ) → i < pagesIn stood → typeOf (pageAt i before) ≡ dataType
+    data-page zero l = ap typeOf (page-at (page 0 (a ∷ []) ∷ page 0 [] ∷ []) first-ok 0 (lit< tt)) ∙ type-of 0 _ (first-ok .0)
+    data-page (suc zero) l = ap typeOf (page-at (page 0 (a ∷ []) ∷ page 0 [] ∷ []) first-ok 1 (lit< tt)) ∙ type-of 1 _ (first-ok .1 .0)
+    data-page (suc (suc i)) l = absurd (omega (arith, two))
+
     each : (i k : ℕ) → i < pagesIn stood → slotAt (pageAt i stood) k ≡ run (start before) (take (moment i) steps) .slot i k
     each zero k l = ap (λ (p : List ℕ). slotAt p k) (page-at (page 7 (c ∷ []) ∷ page 5 (a ∷ []) ∷ []) stood-ok 0 (lit< tt)) ∙ slot-of 0 _ (stood-ok .0) k ∙ slot-0 k
     each (suc zero) k l = ap (λ (p : List ℕ). slotAt p k) (page-at (page 7 (c ∷ []) ∷ page 5 (a ∷ []) ∷ []) stood-ok 1 (lit< tt)) ∙ slot-of 1 _ (stood-ok .1 .0) k ∙ slot-1 k

@@ -4,3 +4,4 @@ pub mod Pages
 pub mod Rows
 pub mod Example
 pub mod ShutOut
+pub mod Tail

@@ -9,5 +9,5 @@ pub demand3 : (h : History) → Demand3 h
 demand3 h =
     record {
       exact = λ magic floor moment P c table stands felt ok i k l d. exact h magic floor moment P c table stands felt ok i k l d;
-      repeats = λ magic floor P c₁ c₂ T₁ T₂ T₃ bytes log le t₁ t₃ ok Q mixed. again magic floor P (h .log) bytes log c₁ c₂ le T₁ T₂ T₃ t₁ t₃ ok Q (mixed .size) (mixed .each);
+      repeats = λ magic floor₁ floor P c₁ c₂ T₁ T₂ T₃ bytes log le t₁ t₃ ok Q mixed. again magic floor₁ floor P (h .log) bytes log c₁ c₂ le T₁ T₂ T₃ t₁ t₃ ok Q (mixed .size) (mixed .each);
     }

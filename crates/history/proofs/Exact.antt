@@ -54,5 +54,5 @@ module _ (h : History) (magic floor : ℕ) (moment : ℕ → ℕ) (P : List ℕ)
       ap (λ (p : List ℕ). slotAt p k) (page-after i l)
       ∙ slot-mended (committed E) E i (pageAt i P) (page-length P i l) (accepted .roomy i l) k
       ∙ ap (winner (committed E) (changes i k E)) (stands .slots i k l d)
-      ∙ slot-recovers i k (start (h .pages)) (h .steps) (moment i) (committed E) E (cut .0) (λ t. refl) (h .honest) (cut .1 ∙ h .inLog) (felt .felt i l d)
+      ∙ slot-recovers i k (λ j. typeOf (pageAt j (h .pages)) ≡ dataType) (stands .type i l d) (start (h .pages)) (h .steps) (moment i) (committed E) E (cut .0) (λ t. refl) (h .honest) (cut .1 ∙ h .inLog) (felt .felt i l d)
       ∙ sym (fed-last i k (committed E) E (slotAt (pageAt i (h .pages)) k))

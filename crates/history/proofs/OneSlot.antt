@@ -68,11 +68,11 @@ module _ (i k : ℕ) where
   untouched s steps none n = quiet-run (s .slot i k) s steps n (record { holds = refl; apart = λ t. rw (none t) tt }) .holds
 
   -- the first change on the slot finds what it held at first
-  first-before : (v : List ℕ) (s : State) (steps : List Step) (x : Change) (xs : List Change) → Honest s steps → changes i k (loggedIn steps) ≡ x ∷ xs → Quiet v s → x .before ≡ v
+  first-before : (named : ℕ → Type 0) (v : List ℕ) (s : State) (steps : List Step) (x : Change) (xs : List Change) → named i → Honest named s steps → changes i k (loggedIn steps) ≡ x ∷ xs → Quiet v s → x .before ≡ v
   unfolding changes
-  first-before v s [] x xs h n q = absurd (omega (arith, ap length n))
-  first-before v s (logged e ∷ steps) x xs h n q =
-      go (effectOn i k e) refl n (h .0 i k) (λ a b. first-before v (change s e) steps x xs (h .1) a (quiet-change v s e b q))
+  first-before named v s [] x xs at h n q = absurd (omega (arith, ap length n))
+  first-before named v s (logged e ∷ steps) x xs at h n q =
+      go (effectOn i k e) refl n (h .0 i k at) (λ a b. first-before named v (change s e) steps x xs at (h .1) a (quiet-change v s e b q))
     where
       go : (ys : List Change) → effectOn i k e ≡ ys → ys ++ changes i k (loggedIn steps) ≡ x ∷ xs → Finds (s .slot i k) ys
           → (changes i k (loggedIn steps) ≡ x ∷ xs → effectOn i k e ≡ [] → x .before ≡ v) → x .before ≡ v
@@ -80,8 +80,8 @@ module _ (i k : ℕ) where
       go (y ∷ ys) m a f later =
           let yx : y ≡ x = cc in
           ap (λ (z : Change). z .before) (sym yx) ∙ sym (f .0) ∙ q .holds
-  first-before v s (restored t ∷ steps) x xs h n q =
-      first-before v (restore s t (s .undo t)) steps x xs h n (quiet-restore t v s (s .undo t) (q .apart t) q)
+  first-before named v s (restored t ∷ steps) x xs at h n q =
+      first-before named v (restore s t (s .undo t)) steps x xs at h n (quiet-restore t v s (s .undo t) (q .apart t) q)
 
   -- ---- the ledger keeps the after-image of the last committed change
 
@@ -124,10 +124,10 @@ module _ (i k : ℕ) where
   logged-append (logged e ∷ xs) ys = ap (λ (l : List Entry). e ∷ l) (logged-append xs ys)
   logged-append (restored t ∷ xs) ys = logged-append xs ys
 
-  pub slot-recovers : (s : State) (steps : List Step) (m : ℕ) (c : ℕ → Bool) (es zs : List Entry) → ((t : ℕ) → s .undo t ≡ []) → Honest s steps
+  pub slot-recovers : (named : ℕ → Type 0) → named i → (s : State) (steps : List Step) (m : ℕ) (c : ℕ → Bool) (es zs : List Entry) → ((t : ℕ) → s .undo t ≡ []) → Honest named s steps
       → es ++ zs ≡ loggedIn steps → topOf i (drop (length es) (loggedIn (take m steps))) ≡ 0
       → winner c (changes i k es) (run s (take m steps) .slot i k) ≡ lastAfter c (changes i k es) (s .slot i k)
-  slot-recovers s steps m c es zs none h cut felt = go (changes i k es) refl
+  slot-recovers named at s steps m c es zs none h cut felt = go (changes i k es) refl
     where
       start : Quiet (s .slot i k) s
       start = record { holds = refl; apart = λ t. rw (none t) tt }
@@ -149,4 +149,4 @@ module _ (i k : ℕ) where
       go [] n = untouched s (take m steps) none (no-change n)
       go (x ∷ xs) n =
           let all : changes i k (loggedIn steps) ≡ x ∷ (xs ++ changes i k zs) = ap (changes i k) (sym cut) ∙ changes-append i k es zs ∙ ap (λ (l : List Change). l ++ changes i k zs) n in
-          ap (lastAfter c (x ∷ xs)) (first-before (s .slot i k) s steps x (xs ++ changes i k zs) h all start)
+          ap (lastAfter c (x ∷ xs)) (first-before named (s .slot i k) s steps x (xs ++ changes i k zs) at h all start)

@@ -13,17 +13,18 @@ use Rattle.rules.specs.Recover.{recoverOf}
 use Rattle.rules.specs.declared.Record.{Record}
 use Rattle.history.specs.History.{Step, loggedIn, run, Honest, start, ledger}
 
--- An honest history: its starting pages, its steps, and its log, whose entries are those that the steps logged.
+-- An honest history: its starting pages, its steps, and its log, whose entries are those that the steps logged. Nothing is asked of changes on pages that are not of type 1.
 pub record History : Type 0 where
   pub pages : List ℕ
   pub steps : List Step
   pub log : List ℕ
-  pub honest : Honest (start pages) steps
+  pub honest : Honest (λ i. typeOf (pageAt i pages) ≡ dataType) (start pages) steps
   pub inLog : entries log ≡ loggedIn steps
 
--- The pages P, each as it stood at a moment of the history of its own: moment i is how many steps had been made. Nothing is asked of pages that are not of type 1, nothing of
+-- The pages P, each as it stood at a moment of the history of its own: moment i is how many steps had been made. A page of type 1 was so from the start. Nothing is asked of other pages, nothing of
 -- layout, flags, item counts, LSNs and checksums, and not that the pages are good: acceptance shows that.
 pub record Stands (h : History) (moment : ℕ → ℕ) (P : List ℕ) : Type 0 where
+  pub type : (i : ℕ) → i < pagesIn P → typeOf (pageAt i P) ≡ dataType → typeOf (pageAt i (h .pages)) ≡ dataType
   pub slots : (i k : ℕ) → i < pagesIn P → typeOf (pageAt i P) ≡ dataType → slotAt (pageAt i P) k ≡ run (start (h .pages)) (take (moment i) (h .steps)) .slot i k
 
 -- The cut, the first c bytes of the log, has each change that a page has felt by its moment: what was logged by then and is not in the cut is no change on that page.
@@ -42,9 +43,9 @@ pub record Demand3 (h : History) : Type 0 where
       → (i k : ℕ) → i < pagesIn P → typeOf (pageAt i P) ≡ dataType
       → slotAt (pageAt i (recoverOf magic floor P (take c (h .log)) table .pages)) k ≡ ledger (h .pages) (entries (take c (h .log))) i k
   -- Where the run from a cut c₂ is accepted, it is accepted again, with the same answer and the same bytes, after a run from a cut c₁ that is no longer was stopped anywhere
-  -- or refused. The runs take the same magic and as many records. The buffers are bytes.
-  pub repeats : (magic floor : ℕ) (P : List ℕ) (c₁ c₂ : ℕ) (T₁ T₂ T₃ : List Record) → Bytes P → Bytes (h .log) → c₁ ≤ c₂ → length T₁ ≡ length T₂ → length T₃ ≡ length T₂
+  -- or refused. The runs take the same magic and as many records; the earlier may have had another floor. The buffers are bytes.
+  pub repeats : (magic floor₁ floor : ℕ) (P : List ℕ) (c₁ c₂ : ℕ) (T₁ T₂ T₃ : List Record) → Bytes P → Bytes (h .log) → c₁ ≤ c₂ → length T₁ ≡ length T₂ → length T₃ ≡ length T₂
       → recoverOf magic floor P (take c₂ (h .log)) T₂ .answer .number ≡ 0
-      → (Q : List ℕ) → Mixed P (recoverOf magic floor P (take c₁ (h .log)) T₁ .pages) Q
+      → (Q : List ℕ) → Mixed P (recoverOf magic floor₁ P (take c₁ (h .log)) T₁ .pages) Q
       → (recoverOf magic floor Q (take c₂ (h .log)) T₃ .answer ≡ recoverOf magic floor P (take c₂ (h .log)) T₂ .answer)
       × (recoverOf magic floor Q (take c₂ (h .log)) T₃ .pages ≡ recoverOf magic floor P (take c₂ (h .log)) T₂ .pages)

@@ -1,7 +1,7 @@
 -- Honest histories (paper 01, Which image wins): entries that are logged and changes that are taken back, step by step, and what they leave in the slots.
 --
 -- Asked is only what demand 3 needs. Paper 01 also asks that the starting pages are good, that the log rules hold, that a rollback takes back all its changes and
--- a commit none, that a page's LSN is bounded by the floor and its felt changes, and that a step keeps a page's magic, type, id and reserved bytes: each history that
+-- a commit none, that a page's LSN is bounded by the floor and its felt changes, and that a step keeps a page's magic, id and reserved bytes: each history that
 -- keeps these too is one of those here.
 use Prim.Native.Nat.{ℕ, zero, suc}
 use mathlib.Core.Path.{_≡_}
@@ -68,10 +68,11 @@ run s [] = s
 run s (logged e ∷ steps) = run (change s e) steps
 run s (restored t ∷ steps) = run (restore s t (s .undo t)) steps
 
-abbrev pub Honest : State → List Step → Type 0
-Honest s [] = Unit {0}
-Honest s (logged e ∷ steps) = ((i k : ℕ) → Finds (s .slot i k) (effectOn i k e)) × Honest (change s e) steps
-Honest s (restored t ∷ steps) = Honest (restore s t (s .undo t)) steps
+-- on the pages that are named, each change finds its before-image in its slot
+abbrev pub Honest : (ℕ → Type 0) → State → List Step → Type 0
+Honest named s [] = Unit {0}
+Honest named s (logged e ∷ steps) = ((i k : ℕ) → named i → Finds (s .slot i k) (effectOn i k e)) × Honest named (change s e) steps
+Honest named s (restored t ∷ steps) = Honest named (restore s t (s .undo t)) steps
 
 -- the state of the starting pages: nothing to take back
 abbrev pub start : List ℕ → State

@@ -5,3 +5,4 @@ pub mod Outcome
 pub mod Spots
 pub mod Heads
 pub mod RowLaws
+pub mod RowRecovered

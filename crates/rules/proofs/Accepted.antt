@@ -46,8 +46,8 @@ slot-bytes p k b = of (ltb k (countOf p))
     of true = bytes-take (slotLen (bodyOf p) k) (bytes-drop (slotOff (bodyOf p) k) (bytes-drop 64 b))
     of false = bytes-nil
 
-module _ (c d : ℕ → Bool) (magic floor last last′ : ℕ) (es fs : List Entry) (i : ℕ) (p : List ℕ)
-    (first : Accepts c magic floor last es i p) (second : Accepts d magic floor last′ (es ++ fs) i p)
+module _ (c d : ℕ → Bool) (magic floor₁ floor last last′ : ℕ) (es fs : List Entry) (i : ℕ) (p : List ℕ)
+    (first : Accepts c magic floor₁ last es i p) (second : Accepts d magic floor last′ (es ++ fs) i p)
     (bytes : Bytes p) (lsns : lastOn i (es ++ fs) ≤ last′) (small : last′ < 2 ^ 64)
     (images : (k : ℕ) → Images TupleGood (changes i k es)) (image-bytes : (k : ℕ) → Images Bytes (changes i k es)) where
   module _ (touched : 0 < topOf i es) where

@@ -83,8 +83,8 @@ page-accepts full magic floor pages log a i l =
       hasRoom = a .roomy i l;
     }
 
-module _ (full : ℕ → Bool) (magic floor : ℕ) (P L : List ℕ) (bP : Bytes P) (bL : Bytes L) (c₁ c₂ : ℕ) (le : c₁ ≤ c₂)
-    (A₁ : Accepted full magic floor P (take c₁ L)) (A₂ : Accepted full magic floor P (take c₂ L)) where
+module _ (full : ℕ → Bool) (magic floor₁ floor : ℕ) (P L : List ℕ) (bP : Bytes P) (bL : Bytes L) (c₁ c₂ : ℕ) (le : c₁ ≤ c₂)
+    (A₁ : Accepted full magic floor₁ P (take c₁ L)) (A₂ : Accepted full magic floor P (take c₂ L)) where
   abbrev E₁ : List Entry
   E₁ = entries (take c₁ L)
 
@@ -115,8 +115,8 @@ module _ (full : ℕ → Bool) (magic floor : ℕ) (P L : List ℕ) (bP : Bytes 
   unfolding mend
   one-page i l = go E₂ (longer .1) (page-accepts full magic floor P (take c₂ L) A₂ i l) (lsns i) small
     where
-      a₁ : Accepts (committed E₁) magic floor (lastLsn E₁) E₁ i (pageAt i P)
-      a₁ = page-accepts full magic floor P (take c₁ L) A₁ i l
+      a₁ : Accepts (committed E₁) magic floor₁ (lastLsn E₁) E₁ i (pageAt i P)
+      a₁ = page-accepts full magic floor₁ P (take c₁ L) A₁ i l
 
       b : Bytes (pageAt i P)
       b = bytes-take pageBytes (bytes-drop (i * pageBytes) bP)
@@ -128,7 +128,7 @@ module _ (full : ℕ → Bool) (magic floor : ℕ) (P L : List ℕ) (bP : Bytes 
           let e′ : E ≡ E₁ ++ longer .0 = sym e in
           let a : Accepts (committed E) magic floor (lastLsn E) (E₁ ++ longer .0) i (pageAt i P) = subst (λ (X : List Entry). Accepts (committed E) magic floor (lastLsn E) X i (pageAt i P)) e′ a₂ in
           let n : lastOn i (E₁ ++ longer .0) ≤ lastLsn E = rw e m in
-          let x = mend-accepted (committed E₁) (committed E) magic floor (lastLsn E₁) (lastLsn E) E₁ (longer .0) i (pageAt i P) a₁ a b n s (tuples i) (bytes i) .0 in
+          let x = mend-accepted (committed E₁) (committed E) magic floor₁ floor (lastLsn E₁) (lastLsn E) E₁ (longer .0) i (pageAt i P) a₁ a b n s (tuples i) (bytes i) .0 in
           let y = mend-again (committed E₁) (committed E) E₁ (longer .0) i (pageAt i P) (a₁ .good .size) b (omega (arith, last-append i E₁ (longer .0))) (a₁ .hasRoom) in (
             subst (λ (X : List Entry). Accepts (committed E) magic floor (lastLsn E) X i (mendBy (committed E₁) E₁ i (pageAt i P))) e x,
             subst (λ (X : List Entry). mendBy (committed E) X i (mendBy (committed E₁) E₁ i (pageAt i P)) ≡ mendBy (committed E) X i (pageAt i P)) e y,
@@ -173,10 +173,10 @@ module _ (full : ℕ → Bool) (magic floor : ℕ) (P L : List ℕ) (bP : Bytes 
     again-pages = ap (λ (n : ℕ). mendedFrom E₂ Q n 0) count-same ∙ mended-alike E₂ Q P (pagesIn P) 0 (λ k a b. mend-q k (omega arith))
 
 -- the theorem, of any pages and any log
-module _ (magic floor : ℕ) (P L : List ℕ) (bP : Bytes P) (bL : Bytes L) (c₁ c₂ : ℕ) (le : c₁ ≤ c₂) (T₁ T₂ T₃ : List Record)
+module _ (magic floor₁ floor : ℕ) (P L : List ℕ) (bP : Bytes P) (bL : Bytes L) (c₁ c₂ : ℕ) (le : c₁ ≤ c₂) (T₁ T₂ T₃ : List Record)
     (t₁ : length T₁ ≡ length T₂) (t₃ : length T₃ ≡ length T₂) (ok : recoverOf magic floor P (take c₂ L) T₂ .answer .number ≡ 0)
     (Q : List ℕ) (same : length Q ≡ length P)
-    (each : (i : ℕ) → i < pagesIn P → (pageAt i Q ≡ pageAt i P) ⊎ (pageAt i Q ≡ pageAt i (recoverOf magic floor P (take c₁ L) T₁ .pages))) where
+    (each : (i : ℕ) → i < pagesIn P → (pageAt i Q ≡ pageAt i P) ⊎ (pageAt i Q ≡ pageAt i (recoverOf magic floor₁ P (take c₁ L) T₁ .pages))) where
   A : Accepted (fullAt (length T₂)) magic floor P (take c₂ L)
   A = is-accepted (fullAt (length T₂)) magic floor P (take c₂ L) (recover-zero magic floor P (take c₂ L) T₂ ok)
 
@@ -185,35 +185,35 @@ module _ (magic floor : ℕ) (P L : List ℕ) (bP : Bytes P) (bL : Bytes L) (c�
       × (recoverOf magic floor Q (take c₂ L) T₃ .pages ≡ recoverOf magic floor P (take c₂ L) T₂ .pages)
 
   -- from an accepted first run; a refused one left every page as it was, so the longer cut itself serves as the shorter
-  ends : (c : ℕ) → c ≤ c₂ → Accepted (fullAt (length T₂)) magic floor P (take c L)
+  ends : (c f : ℕ) → c ≤ c₂ → Accepted (fullAt (length T₂)) magic f P (take c L)
       → ((i : ℕ) → i < pagesIn P → (pageAt i Q ≡ pageAt i P) ⊎ (pageAt i Q ≡ mend (entries (take c L)) i (pageAt i P))) → Ends
-  ends c l a h =
+  ends c f l a h =
       let n : pagesIn Q ≡ pagesIn P = ap (λ (n : ℕ). n / pageBytes) same in
-      let acc = again-accepted (fullAt (length T₂)) magic floor P L bP bL c c₂ l a A Q same h in
+      let acc = again-accepted (fullAt (length T₂)) magic f floor P L bP bL c c₂ l a A Q same h in
       let v : recoverVerdict (fullAt (length T₃)) magic floor Q (take c₂ L) .number ≡ 0 = rw t₃ (accepted-is (fullAt (length T₂)) magic floor Q (take c₂ L) acc) in
       let d = recover-done magic floor Q (take c₂ L) T₃ v in
       let e = recover-done magic floor P (take c₂ L) T₂ (recover-zero magic floor P (take c₂ L) T₂ ok) in (
         d .0 ∙ ap (done (entries (take c₂ L)) (endOf (take c₂ L))) n ∙ sym (e .0),
-        d .1 ∙ again-pages (fullAt (length T₂)) magic floor P L bP bL c c₂ l a A Q same h ∙ sym (e .1),
+        d .1 ∙ again-pages (fullAt (length T₂)) magic f floor P L bP bL c c₂ l a A Q same h ∙ sym (e .1),
       )
 
-  mended-first : (a : Accepted (fullAt (length T₂)) magic floor P (take c₁ L)) → recoverVerdict (fullAt (length T₁)) magic floor P (take c₁ L) .number ≡ 0
-      → (i : ℕ) → i < pagesIn P → pageAt i (recoverOf magic floor P (take c₁ L) T₁ .pages) ≡ mend (entries (take c₁ L)) i (pageAt i P)
+  mended-first : (a : Accepted (fullAt (length T₂)) magic floor₁ P (take c₁ L)) → recoverVerdict (fullAt (length T₁)) magic floor₁ P (take c₁ L) .number ≡ 0
+      → (i : ℕ) → i < pagesIn P → pageAt i (recoverOf magic floor₁ P (take c₁ L) T₁ .pages) ≡ mend (entries (take c₁ L)) i (pageAt i P)
   mended-first a v i l =
       let whole : (k : ℕ) → 0 ≤ k → k < 0 + pagesIn P → length (mend (entries (take c₁ L)) k (pageAt k P)) ≡ pageBytes =
-      λ k x y. one-page (fullAt (length T₂)) magic floor P L bP bL c₁ c₂ le a A k (omega arith) .0 .good .size in
+      λ k x y. one-page (fullAt (length T₂)) magic floor₁ floor P L bP bL c₁ c₂ le a A k (omega arith) .0 .good .size in
       let z : 0 + i ≡ i = omega arith in
-      ap (pageAt i) (recover-done magic floor P (take c₁ L) T₁ v .1)
+      ap (pageAt i) (recover-done magic floor₁ P (take c₁ L) T₁ v .1)
       ∙ page-mended (entries (take c₁ L)) P (pagesIn P) 0 i whole l ∙ ap (λ (k : ℕ). mend (entries (take c₁ L)) k (pageAt k P)) z
 
   pub again : Ends
-  again = go (eqb (recoverVerdict (fullAt (length T₁)) magic floor P (take c₁ L) .number) 0) refl
+  again = go (eqb (recoverVerdict (fullAt (length T₁)) magic floor₁ P (take c₁ L) .number) 0) refl
     where
-      go : (b : Bool) → eqb (recoverVerdict (fullAt (length T₁)) magic floor P (take c₁ L) .number) 0 ≡ b → Ends
+      go : (b : Bool) → eqb (recoverVerdict (fullAt (length T₁)) magic floor₁ P (take c₁ L) .number) 0 ≡ b → Ends
       go true e =
-          let v : recoverVerdict (fullAt (length T₁)) magic floor P (take c₁ L) .number ≡ 0 = eqb-true _ _ e in
-          let a : Accepted (fullAt (length T₂)) magic floor P (take c₁ L) = is-accepted (fullAt (length T₂)) magic floor P (take c₁ L) (rw t₁ at v) in
-          ends c₁ le a (λ i l. ⊎-elim {C = (pageAt i Q ≡ pageAt i P) ⊎ (pageAt i Q ≡ mend (entries (take c₁ L)) i (pageAt i P))} (λ h. inl h) (λ h. inr (h ∙ mended-first a v i l)) (each i l))
+          let v : recoverVerdict (fullAt (length T₁)) magic floor₁ P (take c₁ L) .number ≡ 0 = eqb-true _ _ e in
+          let a : Accepted (fullAt (length T₂)) magic floor₁ P (take c₁ L) = is-accepted (fullAt (length T₂)) magic floor₁ P (take c₁ L) (rw t₁ at v) in
+          ends c₁ floor₁ le a (λ i l. ⊎-elim {C = (pageAt i Q ≡ pageAt i P) ⊎ (pageAt i Q ≡ mend (entries (take c₁ L)) i (pageAt i P))} (λ h. inl h) (λ h. inr (h ∙ mended-first a v i l)) (each i l))
       go false e =
-          let p : recoverOf magic floor P (take c₁ L) T₁ .pages ≡ P = ap (λ (r : Recovered). r .pages) (recover-refused magic floor P (take c₁ L) T₁ e) in
-          ends c₂ (omega arith) A (λ i l. inl (⊎-elim {C = pageAt i Q ≡ pageAt i P} (λ h. h) (λ h. h ∙ ap (pageAt i) p) (each i l)))
+          let p : recoverOf magic floor₁ P (take c₁ L) T₁ .pages ≡ P = ap (λ (r : Recovered). r .pages) (recover-refused magic floor₁ P (take c₁ L) T₁ e) in
+          ends c₂ floor (omega arith) A (λ i l. inl (⊎-elim {C = pageAt i Q ≡ pageAt i P} (λ h. h) (λ h. h ∙ ap (pageAt i) p) (each i l)))

@@ -73,7 +73,7 @@ fn measure(workload: &Workload, size: Size) -> Times {
     let input = workload.input(size);
     let answer = check(&input);
     println!(
-        "# ({}) at {} size: {} entries' worth of {} log bytes, {} transactions, {} pages rewritten",
+        "({}) at {} size: {} entries in {} log bytes, {} transactions, {} pages rewritten",
         workload.name,
         size.name,
         answer.last_lsn,
@@ -112,7 +112,7 @@ fn beside(seconds: f64, library: f64) -> String {
 
 fn print_times(size: Size, times: &[Times], sqlite: &Result<Sqlite, String>) {
     println!(
-        "\n{} size: {} pages of 80 rows, a log of {} bytes, {:.1} MB in all; milliseconds (library's time in terms of it)",
+        "\n{} size: {} pages of 80 rows, a log of {} bytes, {:.1} MB in all; milliseconds (library's time as a multiple)",
         size.name,
         size.pages(),
         size.log_bytes(),

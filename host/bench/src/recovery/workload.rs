@@ -68,7 +68,7 @@ pub struct Workload {
 pub const WORKLOADS: [Workload; 5] = [
     Workload {
         name: "a",
-        about: "300 touched pages",
+        about: "few pages touched, 300 at full",
         build: few_pages,
     },
     Workload {
