@@ -6,3 +6,4 @@ pub mod Spots
 pub mod Heads
 pub mod RowLaws
 pub mod RowRecovered
+pub mod Whole

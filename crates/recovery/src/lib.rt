@@ -4,6 +4,7 @@ ghost use Prim.Native.Nat.{_/_, _≤_};
 ghost use lib.ListN.{length};
 ghost use Rattle.wal.specs.Walk.{entries, endOf};
 ghost use Rattle.rules.specs.Order.{count, isBegin};
+ghost use Rattle.rules.specs.Recover.{recoverOf};
 ghost use Rattle.fates.specs.Fate.{Ordered};
 ghost use Rattle.tally.specs.Flat.{flatAfter};
 ghost use Rattle.rules.specs.Row.{rowOf, rowPayload};
@@ -12,7 +13,9 @@ ghost use Rattle.recovery.specs.Spot.{Lying};
 use endian::Lsn;
 use endian::PageNumber;
 use images::Image;
+use records::inner::fill;
 use rules::Answer;
+use rules::Record;
 use rules::RowHead;
 use tally::inner::fill_flat;
 
@@ -33,6 +36,17 @@ pub struct Located {
     pub source: u64,
     pub offset: u64,
     pub length: u64,
+}
+
+// Recovery: pages mended, the table filled with one record for each Begin, and the answer.
+pub fn recover(magic: u64, floor: Lsn, pages: &mut [u8], log: &[u8], table: &mut [Record]) -> Answer
+    ensures { λ r. ⌜ r ≡ recoverOf magic (floor .0) (now (pages .entry)) (now (log .entry)) (now (table .entry)) .answer ⌝ }
+    ensures { λ _. ⌜ now (pages .exit) ≡ recoverOf magic (floor .0) (now (pages .entry)) (now (log .entry)) (now (table .entry)) .pages ⌝ }
+    ensures { λ _. ⌜ now (table .exit) ≡ recoverOf magic (floor .0) (now (pages .entry)) (now (log .entry)) (now (table .entry)) .table ⌝ }
+{
+    let a = core::recover(magic, floor, pages, log, table.len() as u64);
+    fill(log, a, table);
+    a
 }
 
 // Fills a table of numbers with the records of an accepted log.

@@ -1,0 +1,2 @@
+// The transaction table of an accepted log.
+pub mod inner;
