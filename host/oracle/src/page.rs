@@ -18,7 +18,7 @@ pub(crate) const ROW_HEADER_BYTES: usize = 24;
 
 /// Refusal 1: page bytes no multiple of 16,384, or over 4,096 pages.
 pub(crate) fn check_page_bytes(pages: &[u8]) -> Result<(), Refusal> {
-    if !pages.len().is_multiple_of(PAGE_BYTES) || pages.len() / PAGE_BYTES > MAX_PAGES {
+    if pages.len() % PAGE_BYTES != 0 || pages.len() / PAGE_BYTES > MAX_PAGES {
         return Err(Refusal::new(1, 0));
     }
     Ok(())

@@ -1,0 +1,97 @@
+//! What is read off the pages alone: verification, visible rows and the free map.
+
+use oracle::PAGE_BYTES;
+
+use crate::check::Subject;
+use crate::lent::Lent;
+use crate::seen::Seen;
+use crate::twin;
+
+/// What a lent map holds before a call, and what stands on its sides.
+const MAP_MARK: u8 = 0xA5;
+const MAP_EDGE: u8 = 0x3C;
+
+pub(crate) fn compare(subject: &mut Subject, seen: &mut Seen) {
+    let case = subject.case;
+    let library = library::verify(case.magic, &case.pages);
+    let oracle = twin::verdict(oracle::verify(case.magic, &case.pages));
+    seen.answers("verify", library.number, "", &library, &oracle);
+    if subject.light {
+        let other_magic = case.magic ^ 1 << subject.rng.below(64);
+        let library = library::verify(other_magic, &case.pages);
+        let oracle = twin::verdict(oracle::verify(other_magic, &case.pages));
+        seen.answers("verify", library.number, "another magic", &library, &oracle);
+    }
+    let (rows, maps) = match (subject.light, subject.rng.one_in(2)) {
+        (true, _) => (true, true),
+        (false, rows) => (rows, !rows),
+    };
+    if rows {
+        visible_rows(subject, seen);
+    }
+    if maps {
+        free_maps(subject, seen);
+    }
+}
+
+/// The walk over all visible rows, or over the first few; and the first row from some other places.
+fn visible_rows(subject: &mut Subject, seen: &mut Seen) {
+    let case = subject.case;
+    let mut next = |page: u64, slot: u16| {
+        let library = library::next_visible(case.magic, &case.pages, page, slot);
+        let oracle = twin::visible(oracle::next_visible(case.magic, &case.pages, page, slot));
+        let call = format_args!("from page {page} slot {slot}");
+        seen.answers("next_visible", library.number, call, &library, &oracle);
+        if library.found == 1 {
+            seen.event("visible row");
+        }
+        library
+    };
+    next(case.page, case.slot);
+    let steps = match (subject.light, case.seed % 16) {
+        (true, 0) => 200,
+        (true, _) => 2,
+        (false, _) => 0,
+    };
+    let mut from = (0, 0);
+    for _ in 0..steps {
+        let row = next(from.0, from.1);
+        if row.found == 0 {
+            break;
+        }
+        from = (row.page, row.slot as u16 + 1);
+    }
+    if subject.light {
+        match subject.rng.one_in(2) {
+            true => next(subject.rng.below(6), u16::MAX),
+            false => next(subject.rng.number(), subject.rng.below(5_000) as u16),
+        };
+    }
+}
+
+/// Maps of the asked length, and of one byte fewer than needed or of some more.
+fn free_maps(subject: &mut Subject, seen: &mut Seen) {
+    let case = subject.case;
+    let needed = (case.pages.len() / PAGE_BYTES).div_ceil(8);
+    let other = match subject.rng.one_in(2) {
+        true => needed.saturating_sub(1),
+        false => needed + subject.rng.size(0, 9),
+    };
+    for length in [case.map_len, other] {
+        let before = vec![MAP_MARK; length];
+        let mut lent = Lent::new(&before, subject.rng.size(0, 7), MAP_EDGE);
+        let library = library::free_map(case.magic, &case.pages, lent.items());
+        let (left, edges_kept) = lent.taken_back();
+        let mut expected = before;
+        let oracle = twin::free_map(oracle::free_map(case.magic, &case.pages, &mut expected));
+        let call = format_args!("into {length} bytes");
+        seen.answers("free_map", library.number, call, &library, &oracle);
+        seen.items(format_args!("map of {length} bytes"), &left, &expected);
+        seen.must(edges_kept, || {
+            format!("free_map into {length} bytes wrote outside the map")
+        });
+        if length == case.map_len {
+            seen.meets_aim(case, &[16], library.verdict());
+        }
+    }
+}

@@ -1,0 +1,100 @@
+//! The second program's answers as the library's structs, field by field.
+
+pub fn verdict(of: oracle::Verdict) -> library::Verdict {
+    library::Verdict {
+        number: of.number,
+        place: of.place,
+    }
+}
+
+pub fn answer(of: oracle::Answer) -> library::Answer {
+    library::Answer {
+        number: of.number,
+        place: of.place,
+        last_lsn: of.last_lsn,
+        tail_offset: of.tail_offset,
+        committed: of.committed,
+        rolled_back: of.rolled_back,
+        unended: of.unended,
+        changes_committed: of.changes_committed,
+        changes_rolled_back: of.changes_rolled_back,
+        changes_unended: of.changes_unended,
+        changes_zero: of.changes_zero,
+        pages_rewritten: of.pages_rewritten,
+    }
+}
+
+pub fn row(of: oracle::Row) -> library::Row {
+    library::Row {
+        number: of.number,
+        place: of.place,
+        filled: of.filled,
+        xmin: of.xmin,
+        xmax: of.xmax,
+        deleted: of.deleted,
+        source: of.source,
+        offset: of.offset,
+        length: of.length,
+    }
+}
+
+pub fn visible(of: oracle::Visible) -> library::Visible {
+    library::Visible {
+        number: of.number,
+        place: of.place,
+        found: of.found,
+        page: of.page,
+        slot: of.slot,
+        length: of.length,
+    }
+}
+
+pub fn free_map(of: oracle::FreeMap) -> library::FreeMap {
+    library::FreeMap {
+        number: of.number,
+        place: of.place,
+        free: of.free,
+    }
+}
+
+/// A step that found an entry, with the place it leads to.
+fn entry(next: u64, of: oracle::EntryFields) -> library::Step {
+    library::Step {
+        kind: library::STEP_ENTRY,
+        next,
+        offset: of.offset,
+        length: of.length,
+        lsn: of.lsn,
+        transaction: of.transaction,
+        entry_type: of.kind,
+        table: of.table,
+        key_len: of.key_len,
+        old_len: of.old_len,
+        new_len: of.new_len,
+    }
+}
+
+/// A step that found no entry and stays.
+fn no_entry(kind: u64, place: u64) -> library::Step {
+    library::Step {
+        kind,
+        next: place,
+        ..library::Step::default()
+    }
+}
+
+pub fn forward(place: u64, of: oracle::Step) -> library::Step {
+    match of {
+        oracle::Step::Entry(of) => entry(of.offset + of.length, of),
+        oracle::Step::End => no_entry(library::STEP_END, place),
+        oracle::Step::Torn => no_entry(library::STEP_TORN, place),
+        oracle::Step::Damage => no_entry(library::STEP_DAMAGED, place),
+    }
+}
+
+pub fn backward(place: u64, of: Option<oracle::EntryFields>) -> library::Step {
+    match of {
+        Some(of) => entry(of.offset, of),
+        None => no_entry(library::STEP_END, place),
+    }
+}

@@ -1,0 +1,128 @@
+//! Twenty thousand seeds: honest histories with their ledgers and broken runs, logs that fit no pages, inputs spoiled in
+//! one or two known ways, bytes changed at random.
+
+use std::ops::Range;
+use std::sync::OnceLock;
+use std::time::Instant;
+
+use compare::{sweep, Seen};
+use generate::mutations;
+use library::refusal::REFUSALS;
+
+use crate::{assert_no_differences, tell};
+
+const SEEDS: Range<u64> = 0..20_000;
+
+/// The calls that refuse by the paper's numbers.
+const REFUSING: [&str; 6] = [
+    "recover",
+    "read_row",
+    "verify",
+    "next_visible",
+    "free_map",
+    "log_open",
+];
+
+/// One sweep over all seeds, which the tests below look at.
+fn seen() -> &'static Seen {
+    static SEEN: OnceLock<Seen> = OnceLock::new();
+    SEEN.get_or_init(|| {
+        let start = Instant::now();
+        let seen = sweep(SEEDS);
+        tell(&format!(
+            "seeds {SEEDS:?}: {} cases, {} calls of each program, {:.1} s\n{}",
+            seen.cases,
+            seen.calls(),
+            start.elapsed().as_secs_f64(),
+            counts(&seen),
+        ));
+        seen
+    })
+}
+
+/// How often each call gave each number, and what else was counted.
+fn counts(seen: &Seen) -> String {
+    let mut text = format!("{:>22}", "number");
+    for entry in REFUSING {
+        text += &format!("{entry:>14}");
+    }
+    let done = (0, "done");
+    for (number, name) in [done]
+        .into_iter()
+        .chain(REFUSALS.iter().map(|it| (it.number, it.name)))
+    {
+        text += &format!("\n{number:>2} {name:>19}");
+        for entry in REFUSING {
+            text += &format!("{:>14}", seen.times(entry, number));
+        }
+    }
+    for (event, times) in &seen.events {
+        text += &format!("\n{times:>10} x {event}");
+    }
+    text
+}
+
+/// Fails if something came up fewer times than it should.
+fn assert_often(seen: &Seen, least: &[(&'static str, u64)]) {
+    for &(event, least) in least {
+        let times = seen.events(event);
+        assert!(times >= least, "{event}: {times} times, not {least}");
+    }
+}
+
+#[test]
+fn both_programs_agree_on_every_seed() {
+    let seen = seen();
+    assert_no_differences(seen);
+    assert_eq!(seen.cases, SEEDS.end - SEEDS.start);
+    for kind in 0..=2 {
+        assert!(
+            seen.times("log_forward", kind) > 10_000,
+            "step of kind {kind}"
+        );
+    }
+    assert!(seen.times("log_forward", 4) > 10_000);
+    assert!(seen.times("log_backward", 0) > 10_000);
+    assert_often(
+        seen,
+        &[
+            ("visible row", 20_000),
+            ("row from the log", 5_000),
+            ("row from the pages", 5_000),
+            ("empty slot", 3_000),
+        ],
+    );
+}
+
+#[test]
+fn honest_histories_end_as_their_ledgers_say() {
+    let seen = seen();
+    assert_no_differences(seen);
+    assert!(seen.kinds["honest"] > 4_000 && seen.kinds["honest, any cut"] > 1_000);
+    assert_often(
+        seen,
+        &[
+            ("ledger", 4_000),
+            ("repeated recovery", 5_000),
+            ("mixture of old and mended pages", 500),
+            ("earlier run refused", 100),
+        ],
+    );
+}
+
+#[test]
+fn spoiled_inputs_reach_every_refusal() {
+    let seen = seen();
+    assert_no_differences(seen);
+    for refusal in REFUSALS {
+        assert!(
+            seen.reached(refusal.number) > 0,
+            "refusal {} was not reached",
+            refusal.number
+        );
+    }
+    for mutation in mutations().iter().filter(|mutation| mutation.seldom == 1) {
+        assert!(seen.kinds.contains_key(mutation.name), "{}", mutation.name);
+    }
+    assert_often(seen, &[("aim", 5_000)]);
+}

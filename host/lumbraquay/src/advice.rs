@@ -1,0 +1,177 @@
+//! What a refusal means to the one who reads it: where it stands, what is found there and what to do.
+
+use library::refusal::{self, Place};
+use library::{Verdict, PAGE_BYTES, STEP_ENTRY};
+
+use crate::args::Parsed;
+use crate::failure::Failure;
+use crate::input::{verdict_fields, Log, Pages, Read};
+use crate::json::Json;
+use crate::output::Output;
+use crate::show;
+
+/// Goes on only where nothing is refused. A refusal is printed as JSON if that is wanted, else its text is in the failure.
+pub fn unless_refused(
+    parsed: &Parsed,
+    output: &mut Output,
+    verdict: Verdict,
+    read: Read,
+) -> Result<(), Failure> {
+    if verdict.number == refusal::DONE {
+        return Ok(());
+    }
+    if parsed.flag("--json") {
+        let mut fields = verdict_fields(parsed, verdict);
+        fields.extend(refusal_fields(verdict, read));
+        output.line(Json::Object(fields))?;
+        return Err(Failure::Refused(String::new()));
+    }
+    Err(Failure::Refused(text(verdict, read)))
+}
+
+/// The fields of a refusal after number, name and place.
+pub fn refusal_fields(verdict: Verdict, read: Read) -> Vec<(&'static str, Json)> {
+    let place_is = match place_of(verdict.number) {
+        Place::Nothing => "nothing",
+        Place::LogOffset => "offset in the log",
+        Place::PageIndex => "page index",
+    };
+    vec![
+        ("place_is", place_is.into()),
+        ("meaning", meaning(verdict.number).into()),
+        ("found", found(verdict, read).map_or(Json::Null, Json::Text)),
+        ("advice", advice(verdict.number).into()),
+    ]
+}
+
+pub fn text(verdict: Verdict, read: Read) -> String {
+    let Verdict { number, place } = verdict;
+    let name = refusal::refusal(number).map_or("unknown", |refusal| refusal.name);
+    let place = match (place_of(number), read.pages, read.log) {
+        (Place::Nothing, _, _) => String::new(),
+        (Place::LogOffset, _, Some(log)) => format!(" at offset {place} of {}", log.path.display()),
+        (Place::LogOffset, _, None) => format!(" at offset {place} of the log"),
+        (Place::PageIndex, Some(pages), _) => format!(
+            " at page {place} of {}, offset {}",
+            pages.path.display(),
+            place.saturating_mul(PAGE_BYTES as u64)
+        ),
+        (Place::PageIndex, None, _) => format!(" at page {place}"),
+    };
+    let mut text = format!("refused: {number} {name}{place}\n");
+    text += &format!("  meaning:    {}\n", meaning(number));
+    if let Some(found) = found(verdict, read) {
+        text += &format!("  found:      {found}\n");
+    }
+    text += &format!("  what to do: {}\n", advice(number));
+    text + "No file was changed."
+}
+
+fn place_of(number: u64) -> Place {
+    refusal::refusal(number).map_or(Place::Nothing, |refusal| refusal.place)
+}
+
+fn meaning(number: u64) -> &'static str {
+    refusal::refusal(number).map_or("a number that this command does not know", |refusal| {
+        refusal.when
+    })
+}
+
+/// What stands at the place of a refusal.
+fn found(verdict: Verdict, read: Read) -> Option<String> {
+    match place_of(verdict.number) {
+        Place::PageIndex => found_page(read.pages?, verdict.place),
+        Place::LogOffset => found_entry(read.log?, verdict.place),
+        Place::Nothing => match verdict.number {
+            refusal::PAGE_AREA => Some(found_length(read.pages?)),
+            refusal::LOG_TOO_LONG => Some(format!("{} bytes", read.log?.length)),
+            refusal::LOG_HEADER => Some(found_header(read.log?)),
+            refusal::NO_SUCH_PAGE => Some(format!(
+                "pages 0 to {}",
+                read.pages?.count().saturating_sub(1)
+            )),
+            _ => None,
+        },
+    }
+}
+
+fn found_length(pages: &Pages) -> String {
+    let length = pages.length;
+    let (whole, left) = (length / PAGE_BYTES as u64, length % PAGE_BYTES as u64);
+    format!("{length} bytes, which are {whole} pages and {left} bytes")
+}
+
+fn found_header(log: &Log) -> String {
+    let start = &log.bytes[..log.bytes.len().min(6)];
+    format!(
+        "{} bytes, which start with '{}'",
+        log.bytes.len(),
+        show::hex(start)
+    )
+}
+
+fn found_page(pages: &Pages, index: u64) -> Option<String> {
+    let page = pages.page(index)?;
+    let number = |at: usize| {
+        page[at..]
+            .first_chunk()
+            .map_or(0, |bytes| u64::from_le_bytes(*bytes))
+    };
+    Some(format!(
+        "magic {:#x} (looked for {:#x}, {}), type {} {}, id {}, LSN {}, checksum {:08x} (of the body {:08x})",
+        number(0),
+        pages.magic,
+        pages.magic_from(),
+        page[8],
+        show::page_type(page[8]),
+        number(16),
+        number(24),
+        number(12) as u32,
+        library::crc32c(&page[64..]),
+    ))
+}
+
+fn found_entry(log: &Log, place: u64) -> Option<String> {
+    let step = library::log_forward(&log.bytes, place);
+    if step.kind != STEP_ENTRY {
+        let length = log.bytes.get(place as usize..)?.first_chunk()?;
+        return Some(format!(
+            "no whole entry; its length reads {}",
+            u32::from_le_bytes(*length)
+        ));
+    }
+    let target = match show::target(&log.bytes, &step) {
+        Some((page, slot)) => format!(", page {page} slot {slot}"),
+        None => String::new(),
+    };
+    Some(format!(
+        "entry of {} bytes, LSN {}, transaction {}, type {} {}{target}",
+        step.length,
+        step.lsn,
+        step.transaction,
+        step.entry_type,
+        show::entry_type(step.entry_type),
+    ))
+}
+
+fn advice(number: u64) -> &'static str {
+    match number {
+        refusal::PAGE_AREA => "see that this is the page file and was copied whole; more than 4096 pages are beyond this version",
+        refusal::LOG_TOO_LONG => "see that this is the log of these pages; logs of more than 16 MiB are beyond this version",
+        refusal::LOG_HEADER => "see that this file is the log, and that it was copied from its first byte on",
+        refusal::ENTRY_DAMAGED => "copy the log again from its disk or a mirror; `lumbraquay log` shows what stands before the damage",
+        refusal::ENTRY_TYPE => "the log comes from a program that writes entries of other types, which this version does not cover",
+        refusal::ENTRY_SHAPE => "the entry's checksum is right, so it was written like this; ask whoever maintains the program that wrote it",
+        refusal::LSN_ORDER => "see that the log is one log and not two joined or one partly overwritten",
+        refusal::TRANSACTION_ORDER => "see that the log is whole from its first entry on and is one log, not two joined",
+        refusal::CLASH => "two open transactions changed one row, so its locks failed; which of them holds is to be decided by hand",
+        refusal::NO_RECORD => "give a larger number to --records, or leave it out",
+        refusal::PAGE_NOT_GOOD => "put the page back from a backup or the double-write file; if its magic is what differs, give the right one to --magic",
+        refusal::PAGE_LSN => "use the log that reaches this page's LSN; only if all up to that LSN is known to be flushed, give it to --floor",
+        refusal::NO_DATA_PAGE => "see that the pages and the log belong together and that the page file was not cut short",
+        refusal::PAGE_OVERFULL => "the log puts more on this page than it can hold: see that the pages and the log belong together",
+        refusal::NO_SUCH_PAGE => "ask for one of the pages that are there",
+        refusal::MAP_SHORT => "lend a longer map",
+        _ => "use a version of this command that fits the library",
+    }
+}

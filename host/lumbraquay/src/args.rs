@@ -1,0 +1,225 @@
+//! The words of the command line, by what a command takes. Help texts come from the same lists.
+
+use std::collections::BTreeMap;
+use std::ffi::{OsStr, OsString};
+use std::path::Path;
+
+use crate::failure::Failure;
+use crate::output::Output;
+
+pub struct Command {
+    pub name: &'static str,
+    /// One line.
+    pub about: &'static str,
+    /// What has to be given, in this order: name and meaning.
+    pub takes: &'static [(&'static str, &'static str)],
+    pub options: &'static [Choice],
+    /// More for the help text; may be empty.
+    pub more: &'static str,
+    pub run: fn(&Parsed, &mut Output) -> Result<(), Failure>,
+}
+
+/// An option.
+pub struct Choice {
+    pub name: &'static str,
+    /// What its value is called, if it takes one.
+    pub value: Option<&'static str>,
+    pub about: &'static str,
+}
+
+impl Choice {
+    pub const fn flag(name: &'static str, about: &'static str) -> Choice {
+        Choice {
+            name,
+            value: None,
+            about,
+        }
+    }
+
+    pub const fn value(name: &'static str, value: &'static str, about: &'static str) -> Choice {
+        Choice {
+            name,
+            value: Some(value),
+            about,
+        }
+    }
+}
+
+/// Options that several commands have.
+pub const JSON: Choice = Choice::flag("--json", "print one JSON object instead of text");
+pub const MAGIC: Choice = Choice::value(
+    "--magic",
+    "N",
+    "the pages' magic number; read off page 0 where not given",
+);
+pub const FLOOR: Choice = Choice::value(
+    "--floor",
+    "LSN",
+    "all up to this LSN is known to be flushed; 0 where not given",
+);
+
+impl Command {
+    pub fn usage(&self) -> String {
+        let mut text = format!("lumbraquay {}", self.name);
+        for (name, _) in self.takes {
+            text += &format!(" {name}");
+        }
+        for choice in self.options {
+            match choice.value {
+                Some(value) => text += &format!(" [{} {value}]", choice.name),
+                None => text += &format!(" [{}]", choice.name),
+            }
+        }
+        text
+    }
+
+    pub fn help(&self) -> String {
+        let mut text = format!("{}\n\nUse: {}\n", self.about, self.usage());
+        let choices = self.options.iter().map(|choice| {
+            let name = match choice.value {
+                Some(value) => format!("{} {value}", choice.name),
+                None => choice.name.to_string(),
+            };
+            (name, choice.about)
+        });
+        let takes = self
+            .takes
+            .iter()
+            .map(|(name, about)| (name.to_string(), *about));
+        for (name, about) in takes.chain(choices) {
+            text += &format!("  {name:<16} {about}\n");
+        }
+        if !self.more.is_empty() {
+            text += &format!("\n{}\n", self.more);
+        }
+        text + "\nNumbers are decimal, or hexadecimal after 0x.\n"
+    }
+}
+
+/// What the words said.
+pub struct Parsed {
+    command: &'static Command,
+    given: Vec<OsString>,
+    /// Each option that was given, with its value; a flag has an empty one.
+    chosen: BTreeMap<&'static str, OsString>,
+}
+
+impl Parsed {
+    /// None if help was asked for.
+    pub fn read(command: &'static Command, words: &[OsString]) -> Result<Option<Parsed>, Failure> {
+        let mut parsed = Parsed {
+            command,
+            given: Vec::new(),
+            chosen: BTreeMap::new(),
+        };
+        let mut words = words.iter();
+        let mut only_names = false;
+        while let Some(word) = words.next() {
+            let text = word.to_string_lossy();
+            if only_names || !text.starts_with('-') || text == "-" {
+                parsed.given.push(word.clone());
+            } else if text == "--" {
+                only_names = true;
+            } else if text == "--help" || text == "-h" {
+                return Ok(None);
+            } else {
+                parsed.choose(word, &mut words)?;
+            }
+        }
+        parsed.check_count()?;
+        Ok(Some(parsed))
+    }
+
+    /// Takes an option in: `--name`, `--name value` or `--name=value`.
+    fn choose<'a>(
+        &mut self,
+        word: &OsStr,
+        words: &mut impl Iterator<Item = &'a OsString>,
+    ) -> Result<(), Failure> {
+        let text = word
+            .to_str()
+            .ok_or_else(|| self.wrong(format!("unreadable option {}", word.to_string_lossy())))?;
+        let (name, inline) = match text.split_once('=') {
+            Some((name, value)) => (name, Some(OsString::from(value))),
+            None => (text, None),
+        };
+        let mut options = self.command.options.iter();
+        let choice = options
+            .find(|choice| choice.name == name)
+            .ok_or_else(|| self.wrong(format!("unknown option {name}")))?;
+        let value = match (choice.value, inline) {
+            (None, None) => OsString::new(),
+            (None, Some(_)) => return Err(self.wrong(format!("{name} takes no value"))),
+            (Some(_), Some(value)) => value,
+            (Some(value), None) => match words.next() {
+                Some(word) => word.clone(),
+                None => return Err(self.wrong(format!("{name} needs a value, {value}"))),
+            },
+        };
+        match self.chosen.insert(choice.name, value) {
+            None => Ok(()),
+            Some(_) => Err(self.wrong(format!("{name} is given twice"))),
+        }
+    }
+
+    fn check_count(&self) -> Result<(), Failure> {
+        let takes = self.command.takes;
+        if let Some((name, about)) = takes.get(self.given.len()) {
+            return Err(self.wrong(format!("{name} is missing: {about}")));
+        }
+        match self.given.get(takes.len()) {
+            None => Ok(()),
+            Some(word) => Err(self.wrong(format!(
+                "'{}' is one argument too many",
+                word.to_string_lossy()
+            ))),
+        }
+    }
+
+    /// A usage failure of this command.
+    pub fn wrong(&self, what: String) -> Failure {
+        Failure::Usage(format!("{what}\nuse: {}", self.command.usage()))
+    }
+
+    pub fn name(&self) -> &'static str {
+        self.command.name
+    }
+
+    pub fn flag(&self, name: &str) -> bool {
+        self.chosen.contains_key(name)
+    }
+
+    /// The path given at an index of what the command takes.
+    pub fn path(&self, index: usize) -> &Path {
+        Path::new(&self.given[index])
+    }
+
+    /// The number given at an index of what the command takes.
+    pub fn number(&self, index: usize, most: u64) -> Result<u64, Failure> {
+        self.parse(self.command.takes[index].0, &self.given[index], most)
+    }
+
+    pub fn chosen_path(&self, name: &str) -> Option<&Path> {
+        self.chosen.get(name).map(Path::new)
+    }
+
+    pub fn chosen_number(&self, name: &str) -> Result<Option<u64>, Failure> {
+        let value = self.chosen.get(name);
+        value
+            .map(|value| self.parse(name, value, u64::MAX))
+            .transpose()
+    }
+
+    fn parse(&self, name: &str, word: &OsStr, most: u64) -> Result<u64, Failure> {
+        let text = word.to_string_lossy();
+        let number = match text.strip_prefix("0x") {
+            Some(digits) if !digits.starts_with('+') => u64::from_str_radix(digits, 16).ok(),
+            Some(_) => None,
+            None if text.starts_with('+') => None,
+            None => text.parse().ok(),
+        };
+        number
+            .filter(|number| *number <= most)
+            .ok_or_else(|| self.wrong(format!("{name} is '{text}', not a number up to {most}")))
+    }
+}

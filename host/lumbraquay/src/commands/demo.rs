@@ -1,0 +1,220 @@
+//! `demo`: makes a small outage, recovers it and says what became of each order.
+
+use std::ffi::OsString;
+use std::fs;
+use std::io::ErrorKind;
+use std::path::{Path, PathBuf};
+
+use library::{LOG_HEAD_BYTES, PAGE_BYTES, PAGE_LIMIT};
+
+use super::recover;
+use crate::args::{Choice, Command, Parsed, JSON};
+use crate::failure::Failure;
+use crate::files;
+use crate::input::verdict_fields;
+use crate::json::Json;
+use crate::output::Output;
+use crate::portal::{outage, Found, Order, Outage};
+
+pub const COMMAND: Command = Command {
+    name: "demo",
+    about: "makes a small outage, recovers it and says what became of each order",
+    takes: &[],
+    options: &[
+        Choice::value("--dir", "DIR", "where to put the files; a new directory for temporary files where not given"),
+        Choice::flag("--force", "replace the files if they exist"),
+        JSON,
+    ],
+    more: "The files are outage.pages, outage.log and outage.pages.recovered. They are the same at every run.",
+    run,
+};
+
+/// How many directories of one process are tried.
+const MOST_DIRECTORIES: u32 = 1_000;
+
+/// An order before and after recovery.
+struct Told {
+    order: Order,
+    before: Found,
+    after: Found,
+}
+
+fn run(parsed: &Parsed, output: &mut Output) -> Result<(), Failure> {
+    let directory = match parsed.chosen_path("--dir") {
+        Some(given) => given_directory(given)?,
+        None => new_directory()?,
+    };
+    let outage = outage();
+    let pages = directory.join("outage.pages");
+    let log = directory.join("outage.log");
+    let recovered = directory.join("outage.pages.recovered");
+    let force = parsed.flag("--force");
+    for path in [&pages, &log, &recovered] {
+        files::check_new(path, force)?;
+    }
+    files::write_new(&pages, &outage.pages, None, force)?;
+    files::write_new(&log, &outage.log, None, force)?;
+
+    let report = recover_files(&pages, &log, output)?;
+    let after = files::read(&recovered, PAGE_LIMIT * PAGE_BYTES)?;
+    let told = tell_orders(outage, &after.bytes);
+    let wrong: Vec<String> = told
+        .iter()
+        .filter(|told| told.after != told.order.expected)
+        .map(|told| told.order.number.to_string())
+        .collect();
+    if parsed.flag("--json") {
+        let mut fields = verdict_fields(parsed, report.answer.verdict());
+        fields.push(("directory", Json::text(directory.display())));
+        fields.push(("recovery", Json::Object(report.fields())));
+        fields.push((
+            "orders",
+            Json::List(told.iter().map(order_fields).collect()),
+        ));
+        output.line(Json::Object(fields))?;
+    } else {
+        print(output, &directory, &report, &told)?;
+    }
+    match wrong.is_empty() {
+        true => Ok(()),
+        false => Err(Failure::Differs(format!(
+            "not as they should be: orders {}",
+            wrong.join(", ")
+        ))),
+    }
+}
+
+/// A directory that is there or can be made.
+fn given_directory(path: &Path) -> Result<PathBuf, Failure> {
+    fs::create_dir_all(path).map_err(|error| Failure::file("make directory", path, error))?;
+    Ok(path.to_path_buf())
+}
+
+fn new_directory() -> Result<PathBuf, Failure> {
+    let parent = std::env::temp_dir();
+    for number in 0..MOST_DIRECTORIES {
+        let path = parent.join(format!("lumbraquay-demo-{}-{number}", std::process::id()));
+        match fs::create_dir(&path) {
+            Ok(()) => return Ok(path),
+            Err(error) if error.kind() == ErrorKind::AlreadyExists => continue,
+            Err(error) => return Err(Failure::file("make directory", &path, error)),
+        }
+    }
+    Err(Failure::file(
+        "make a directory in",
+        &parent,
+        "there are too many",
+    ))
+}
+
+/// Runs `recover --force` on the files.
+fn recover_files(
+    pages: &Path,
+    log: &Path,
+    output: &mut Output,
+) -> Result<recover::Report, Failure> {
+    let words = [
+        OsString::from("--force"),
+        "--".into(),
+        pages.into(),
+        log.into(),
+    ];
+    match Parsed::read(&recover::COMMAND, &words)? {
+        Some(parsed) => recover::recover(&parsed, output),
+        None => Err(Failure::Usage(
+            "recover took its arguments for a call for help".to_string(),
+        )),
+    }
+}
+
+/// What a slot holds on pages as they stand.
+fn found(magic: u64, pages: &[u8], header: &[u8], order: &Order) -> Found {
+    let (page, slot) = order.place;
+    let row = library::read_row(magic, u64::MAX, pages, header, page, slot);
+    let text = String::from_utf8_lossy(row.payload(pages, header)).into_owned();
+    match (row.filled, row.deleted) {
+        (0, _) => Found::Nothing,
+        (_, 0) => Found::Live(text),
+        _ => Found::Deleted(text),
+    }
+}
+
+fn tell_orders(outage: Outage, after: &[u8]) -> Vec<Told> {
+    let Outage {
+        magic,
+        pages,
+        log,
+        orders,
+    } = outage;
+    // A log without entries changes nothing, so rows are read as they stand.
+    let header = &log[..LOG_HEAD_BYTES];
+    orders
+        .into_iter()
+        .map(|order| Told {
+            before: found(magic, &pages, header, &order),
+            after: found(magic, after, header, &order),
+            order,
+        })
+        .collect()
+}
+
+fn words(found: &Found) -> String {
+    match found {
+        Found::Nothing => "no row".to_string(),
+        Found::Live(text) => format!("\"{text}\""),
+        Found::Deleted(text) => format!("\"{text}\", marked deleted"),
+    }
+}
+
+fn print(
+    output: &mut Output,
+    directory: &Path,
+    report: &recover::Report,
+    told: &[Told],
+) -> Result<(), Failure> {
+    output.line("The power failed at a portal for crane parts. Its disk held some pages too old, some too new, and a torn log:")?;
+    output.line(format_args!("  {}\n", directory.display()))?;
+    report.tell(output, true)?;
+    output.line("\nWhat became of each order:")?;
+    for Told {
+        order,
+        before,
+        after,
+    } in told
+    {
+        output.line(format_args!("  {}  {}", order.number, order.story))?;
+        output.line(format_args!("        on disk    {}", words(before)))?;
+        output.line(format_args!("        recovered  {}", words(after)))?;
+    }
+    let right = told.iter().filter(|told| told.after == told.order.expected);
+    output.line(format_args!(
+        "{} of {} orders are as they should be",
+        right.count(),
+        told.len()
+    ))
+}
+
+fn order_fields(told: &Told) -> Json {
+    let (page, slot) = told.order.place;
+    Json::Object(vec![
+        ("order", told.order.number.into()),
+        ("page", page.into()),
+        ("slot", u64::from(slot).into()),
+        ("story", told.order.story.into()),
+        ("on_disk", found_fields(&told.before)),
+        ("recovered", found_fields(&told.after)),
+        (
+            "as_it_should_be",
+            (told.after == told.order.expected).into(),
+        ),
+    ])
+}
+
+fn found_fields(found: &Found) -> Json {
+    let (state, text) = match found {
+        Found::Nothing => ("none", Json::Null),
+        Found::Live(text) => ("live", Json::text(text)),
+        Found::Deleted(text) => ("deleted", Json::text(text)),
+    };
+    Json::Object(vec![("state", state.into()), ("text", text)])
+}

@@ -1,0 +1,48 @@
+//! Why a command did not do what it is for: its text and its exit status.
+
+use std::fmt::Display;
+use std::io::{ErrorKind, Write};
+use std::path::Path;
+
+pub enum Failure {
+    /// The words on the command line are wrong.
+    Usage(String),
+    /// Trouble with a file.
+    File(String),
+    /// Trouble with standard output; whoever closed it wants no more.
+    Output(std::io::Error),
+    /// The library refused. The text is empty where the refusal was printed as JSON.
+    Refused(String),
+    /// The two programs differ on a replayed case.
+    Differs(String),
+}
+
+impl Failure {
+    /// A file operation that failed.
+    pub fn file(doing: &str, path: &Path, error: impl Display) -> Failure {
+        Failure::File(format!("cannot {doing} {}: {error}", path.display()))
+    }
+
+    pub fn status(&self) -> u8 {
+        match self {
+            Failure::Differs(_) => 1,
+            Failure::Usage(_) | Failure::File(_) | Failure::Output(_) => 2,
+            Failure::Refused(_) => 3,
+        }
+    }
+
+    /// Prints the failure on standard error.
+    pub fn tell(&self) {
+        let text = match self {
+            Failure::Output(error) if error.kind() == ErrorKind::BrokenPipe => return,
+            Failure::Output(error) => format!("cannot write to standard output: {error}"),
+            Failure::Refused(text) if text.is_empty() => return,
+            Failure::Usage(text)
+            | Failure::File(text)
+            | Failure::Refused(text)
+            | Failure::Differs(text) => text.clone(),
+        };
+        // With standard error closed too, the exit status has to say it all.
+        let _ = writeln!(std::io::stderr(), "lumbraquay: {}", text.trim_end());
+    }
+}

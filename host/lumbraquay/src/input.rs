@@ -1,0 +1,154 @@
+//! The two files that commands read, and the options that say how.
+
+use std::path::{Path, PathBuf};
+
+use library::{Verdict, LOG_LIMIT_BYTES, PAGE_BYTES, PAGE_LIMIT};
+
+use crate::args::Parsed;
+use crate::failure::Failure;
+use crate::files;
+use crate::json::Json;
+
+/// A page file and its magic.
+pub struct Pages {
+    pub path: PathBuf,
+    pub bytes: Vec<u8>,
+    /// The file's length, of which no more bytes are read than the library would take and one.
+    pub length: u64,
+    pub magic: u64,
+    magic_given: bool,
+}
+
+impl Pages {
+    /// Reads the page file that is the first thing a command takes.
+    pub fn read(parsed: &Parsed) -> Result<Pages, Failure> {
+        let path = parsed.path(0);
+        let files::Whole { bytes, length } = files::read(path, PAGE_LIMIT * PAGE_BYTES)?;
+        if bytes.is_empty() {
+            return Err(Failure::file("use", path, "it is empty and holds no page"));
+        }
+        let given = parsed.chosen_number("--magic")?;
+        Ok(Pages {
+            path: path.to_path_buf(),
+            magic: given.unwrap_or_else(|| magic_of_page_0(&bytes)),
+            magic_given: given.is_some(),
+            bytes,
+            length,
+        })
+    }
+
+    pub fn count(&self) -> usize {
+        self.bytes.len() / PAGE_BYTES
+    }
+
+    /// The bytes of a page, if they are all there.
+    pub fn page(&self, index: u64) -> Option<&[u8]> {
+        let mut pages = self.bytes.chunks_exact(PAGE_BYTES);
+        pages.nth(usize::try_from(index).ok()?)
+    }
+
+    pub fn magic_from(&self) -> &'static str {
+        match self.magic_given {
+            true => "as given",
+            false => "read off page 0",
+        }
+    }
+
+    /// One line on what is read, and with which magic.
+    pub fn line(&self) -> String {
+        format!(
+            "{}: {} pages, magic {:#x} ({})",
+            self.path.display(),
+            self.count(),
+            self.magic,
+            self.magic_from()
+        )
+    }
+
+    pub fn fields(&self) -> Vec<(&'static str, Json)> {
+        vec![
+            ("pages_file", Json::text(self.path.display())),
+            ("pages", self.count().into()),
+            ("magic", Json::text(format_args!("{:#x}", self.magic))),
+            ("magic_from", self.magic_from().into()),
+        ]
+    }
+}
+
+/// The first eight bytes, as a number.
+fn magic_of_page_0(bytes: &[u8]) -> u64 {
+    bytes
+        .first_chunk()
+        .map_or(0, |first: &[u8; 8]| u64::from_le_bytes(*first))
+}
+
+/// A log file.
+pub struct Log {
+    pub path: PathBuf,
+    pub bytes: Vec<u8>,
+    /// The file's length, of which no more bytes are read than the library would take and one.
+    pub length: u64,
+}
+
+impl Log {
+    pub fn read(path: &Path) -> Result<Log, Failure> {
+        let files::Whole { bytes, length } = files::read(path, LOG_LIMIT_BYTES)?;
+        Ok(Log {
+            path: path.to_path_buf(),
+            bytes,
+            length,
+        })
+    }
+
+    pub fn line(&self) -> String {
+        format!("{}: {} bytes", self.path.display(), self.bytes.len())
+    }
+
+    pub fn fields(&self) -> Vec<(&'static str, Json)> {
+        vec![
+            ("log_file", Json::text(self.path.display())),
+            ("log_bytes", self.bytes.len().into()),
+        ]
+    }
+}
+
+/// What a command has read, for the words of a refusal.
+#[derive(Clone, Copy)]
+pub struct Read<'a> {
+    pub pages: Option<&'a Pages>,
+    pub log: Option<&'a Log>,
+}
+
+impl<'a> Read<'a> {
+    pub fn pages(pages: &'a Pages) -> Read<'a> {
+        Read {
+            pages: Some(pages),
+            log: None,
+        }
+    }
+
+    pub fn log(log: &'a Log) -> Read<'a> {
+        Read {
+            pages: None,
+            log: Some(log),
+        }
+    }
+
+    pub fn both(pages: &'a Pages, log: &'a Log) -> Read<'a> {
+        Read {
+            pages: Some(pages),
+            log: Some(log),
+        }
+    }
+}
+
+/// The fields that every JSON object starts with.
+pub fn verdict_fields(parsed: &Parsed, verdict: Verdict) -> Vec<(&'static str, Json)> {
+    let name = library::refusal::refusal(verdict.number).map_or("DONE", |refusal| refusal.name);
+    vec![
+        ("command", parsed.name().into()),
+        ("number", verdict.number.into()),
+        ("name", name.into()),
+        ("place", verdict.place.into()),
+    ]
+}

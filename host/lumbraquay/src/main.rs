@@ -1,0 +1,95 @@
+//! The command `lumbraquay`: recovers heap pages by their write-ahead log, and looks at both.
+
+mod advice;
+mod args;
+mod commands;
+mod failure;
+mod files;
+mod input;
+mod json;
+mod output;
+mod portal;
+mod show;
+
+use std::ffi::OsString;
+use std::process::ExitCode;
+
+use args::{Command, Parsed};
+use failure::Failure;
+use output::Output;
+
+const VERSION: &str = env!("CARGO_PKG_VERSION");
+
+fn main() -> ExitCode {
+    let words: Vec<OsString> = std::env::args_os().skip(1).collect();
+    let mut output = Output::standard();
+    let done = run(&words, &mut output);
+    // What was printed before a failure goes out before it is told.
+    let done = match output.flush() {
+        Err(failure) if done.is_ok() => Err(failure),
+        _ => done,
+    };
+    match done {
+        Ok(()) => ExitCode::SUCCESS,
+        Err(failure) => {
+            failure.tell();
+            ExitCode::from(failure.status())
+        }
+    }
+}
+
+fn run(words: &[OsString], output: &mut Output) -> Result<(), Failure> {
+    let Some((first, rest)) = words.split_first() else {
+        return Err(Failure::Usage(format!(
+            "no command is given\n\n{}",
+            overview()
+        )));
+    };
+    match first.to_str() {
+        Some("--help" | "-h") => output.text(&overview()),
+        Some("--version" | "-V") => output.line(format_args!("lumbraquay {VERSION}")),
+        Some("help") => help(rest, output),
+        name => run_command(find(name, first)?, rest, output),
+    }
+}
+
+fn find(name: Option<&str>, word: &OsString) -> Result<&'static Command, Failure> {
+    let mut all = commands::ALL.iter();
+    all.find(|command| Some(command.name) == name)
+        .ok_or_else(|| {
+            let word = word.to_string_lossy();
+            Failure::Usage(format!(
+                "'{word}' is no command; `lumbraquay --help` lists them"
+            ))
+        })
+}
+
+fn help(words: &[OsString], output: &mut Output) -> Result<(), Failure> {
+    match words.first() {
+        None => output.text(&overview()),
+        Some(word) => output.text(&find(word.to_str(), word)?.help()),
+    }
+}
+
+fn run_command(
+    command: &'static Command,
+    words: &[OsString],
+    output: &mut Output,
+) -> Result<(), Failure> {
+    match Parsed::read(command, words)? {
+        None => output.text(&command.help()),
+        Some(parsed) => (command.run)(&parsed, output),
+    }
+}
+
+fn overview() -> String {
+    let mut text = String::from(
+        "lumbraquay: recovers heap pages by their write-ahead log, by code that is proved to follow its rules\n\n\
+         Use: lumbraquay COMMAND [ARGUMENTS], where COMMAND is\n",
+    );
+    for command in commands::ALL {
+        text += &format!("  {:<9} {}\n", command.name, command.about);
+    }
+    text + "\n`lumbraquay COMMAND --help` tells more. Exit status: 0 done, 3 refused (the answer says why), 2 wrong use \
+            or trouble\nwith a file. A refusal never changes a file.\n"
+}

@@ -1,0 +1,115 @@
+//! Output that cannot be written, and runs that are broken off: no file is ever seen half-written.
+
+use crate::sandbox::Sandbox;
+
+/// Files that must stand as they did, whatever happened.
+const OLD: [&str; 2] = ["outage.log", "outage.pages"];
+
+/// The uses that write the pages anew.
+const WRITING: [&str; 3] = [
+    "recover outage.pages outage.log",
+    "recover outage.pages outage.log --out new",
+    "recover outage.pages outage.log --in-place",
+];
+
+/// A limit far below the size of the pages on what may be written to a file: past it a write fails, or without the trap
+/// ends the process.
+const TRAPPED: &str = "trap '' XFSZ;";
+const LIMITED: &str = "ulimit -c 0; ulimit -f 20;";
+
+#[test]
+fn a_file_that_cannot_be_written_whole() {
+    let sandbox = Sandbox::with_outage();
+    let before = sandbox.contents();
+    let limited = |words: &str| sandbox.shell(&format!("{TRAPPED} {LIMITED} \"$LQ\" {words}"));
+    for words in WRITING {
+        for json in ["", " --json"] {
+            limited(&format!("{words}{json}")).fails(&["cannot write ", "File too large"]);
+            assert!(sandbox.contents() == before, "{words}");
+        }
+    }
+    limited("demo --dir new").fails(&["cannot write new/outage.pages: File too large"]);
+    limited("replay 7 --dir .").fails(&["cannot write ./7.pages: File too large"]);
+    assert_eq!(sandbox.names(), ["new", "outage.log", "outage.pages"]);
+}
+
+/// On a file system of our own that has no room left, where the machine lets us make one.
+#[test]
+fn a_full_disk() {
+    let sandbox = Sandbox::with_outage();
+    let before = sandbox.contents();
+    let own = "mkdir -p disk && unshare -rm sh -c";
+    let mount = "mount -t tmpfs -o size=100k none disk && cp outage.* disk && cd disk";
+    let possible = sandbox.shell(&format!("{own} '{mount}'")).status == Some(0);
+    for words in WRITING.iter().filter(|_| possible) {
+        // The status, then all names and whether the files are still the same.
+        let check = "ls -A; cmp outage.pages ../outage.pages && cmp outage.log ../outage.log";
+        let done = sandbox.shell(&format!(
+            "{own} '{mount}; \"$LQ\" {words}; echo $?; {check}'"
+        ));
+        assert_eq!(done.out, "2\noutage.log\noutage.pages\n", "{done:#?}");
+        assert!(done.err.contains("No space left on device"), "{done:#?}");
+        assert_eq!(done.status, Some(0), "{done:#?}");
+    }
+    sandbox.shell("rmdir disk").done();
+    assert!(sandbox.contents() == before);
+}
+
+/// A run that is killed while it writes leaves a file under a name of its own, and the next run is not hindered.
+#[test]
+fn a_run_that_is_killed() {
+    for words in WRITING {
+        let sandbox = Sandbox::with_outage();
+        let old = OLD.map(|name| sandbox.read(name));
+        for turn in 1..=2 {
+            let killed = sandbox.shell(&format!("{LIMITED} exec \"$LQ\" {words}"));
+            assert_eq!(killed.status, None, "{killed:#?}");
+            let names = sandbox.names();
+            let (own, seen): (Vec<String>, Vec<String>) =
+                names.into_iter().partition(|name| name.starts_with('.'));
+            assert_eq!(seen, OLD, "{words}");
+            assert_eq!(own.len(), turn);
+            assert!(own.iter().all(|name| name.ends_with(".tmp")));
+        }
+        assert!(OLD.map(|name| sandbox.read(name)) == old);
+        sandbox.say(words).done();
+    }
+}
+
+/// Its process number may come again, as in a container that is started anew.
+#[test]
+fn names_that_a_killed_run_left_are_passed_by() {
+    let sandbox = Sandbox::with_outage();
+    let line = "for n in 0 1; do echo old > .outage.pages.recovered.$$-$n.tmp; done; \
+                exec \"$LQ\" recover outage.pages outage.log";
+    sandbox.shell(line).done();
+    let names = sandbox.names();
+    assert_eq!(names.len(), 5, "{names:?}");
+    assert!(names.contains(&"outage.pages.recovered".to_string()));
+}
+
+#[test]
+fn standard_output_that_is_full_or_closed() {
+    let sandbox = Sandbox::with_outage();
+    let uses = [
+        "--help",
+        "verify outage.pages",
+        "rows outage.pages",
+        "row outage.pages outage.log 1 0",
+        "freemap outage.pages",
+        "log outage.log",
+        "log outage.log --json",
+        "recover outage.pages outage.log --dry-run",
+        "replay 5",
+    ];
+    for words in uses {
+        sandbox
+            .shell(&format!("\"$LQ\" {words} > /dev/full"))
+            .fails(&["cannot write to standard output: No space left on device"]);
+    }
+    // Whoever reads no more wants no message either.
+    let done = sandbox.shell("{ \"$LQ\" replay 5 --all; echo $? > status; } | true");
+    assert_eq!(done.err, "");
+    let status = sandbox.read("status");
+    assert!(status == b"2\n" || status == b"0\n", "{status:?}");
+}

@@ -1,0 +1,15 @@
+//! The command as its users meet it: every subcommand, every exit status, the files it leaves, and the texts of the
+//! documents that show it.
+
+mod demo;
+mod disk;
+mod documents;
+mod inputs;
+mod json;
+mod listing;
+mod log;
+mod recover;
+mod refusals;
+mod replay;
+mod sandbox;
+mod usage;
