@@ -3,7 +3,7 @@
 use mathlib.Core.Path.{_≡_, refl, sym, ap, ap₂, _∙_}
 use Prim.Native.Nat.{ℕ, _+_, _-_, _*_, _≤_}
 use native.Mathlib.Omega.{arith}
-use mathlib.Core.List.{List, _∷_, _++_, append-assoc}
+use mathlib.Core.List.{List, _++_, append-assoc}
 use lib.ListN.{length, take, drop, set, length-append, length-drop, take-append-drop}
 use lib.Seq.{paste, take-length, take-all, length-take-le, length-paste, drop-drop}
 use Rattle.endian.specs.Numbers.{part, bytesOf}
@@ -15,18 +15,12 @@ use Rattle.page.specs.Writer.{withSlot}
 use Rattle.page.proofs.Writing.{paste-at}
 use Rattle.page.proofs.Pasting.{set-byte}
 use Rattle.rules.specs.Shape.{stamped}
+use Rattle.rules.proofs.ImageLaws.{stamped-length}
 
 -- the two stores, of which the second is of one byte
 pub stamp-stored : (d w : List ℕ) (at x : ℕ) → at + 24 ≤ length d → length w ≡ length d → w ≡ paste d (at + 8) (bytesOf 8 x) 8
     → set w (at + 16) 1 ≡ paste (paste d (at + 8) (bytesOf 8 x) 8) (at + 16) (bytesOf 1 1) 1
 stamp-stored d w at x r l e = set-byte w (at + 16) 1 (omega arith) (omega arith) ∙ ap (λ (v : List ℕ). paste v (at + 16) (bytesOf 1 1) 1) e
-
-pub length-stamped : (x : ℕ) (t : List ℕ) → 24 ≤ length t → length (stamped x t) ≡ length t
-unfolding stamped
-length-stamped x t h =
-    let a : length (take 8 t) ≡ 8 = length-take-le 8 t (omega arith) in
-    let b : length (drop 17 t) ≡ length t - 17 = length-drop 17 t in
-    omega (arith, length-append (take 8 t) (bytesOf 8 x ++ (1 ∷ drop 17 t)), length-append (bytesOf 8 x) (1 ∷ drop 17 t), length-bytesOf 8 x)
 
 -- a store into a part t of a list
 paste-within : (p q t y : List ℕ) (at a n : ℕ) → length p ≡ at → length y ≡ n → a + n ≤ length t
@@ -59,7 +53,7 @@ stamped-part v t at x room head =
     let q : List ℕ = drop (at + length t) v in
     let y : List ℕ = bytesOf 8 x ++ bytesOf 1 1 in
     let lp : length (take at v) ≡ at = length-take-le at v (omega arith) in
-    let all : take (length t) (stamped x t) ≡ stamped x t = take-all (length t) (stamped x t) (omega (arith, length-stamped x t head)) in
+    let all : take (length t) (stamped x t) ≡ stamped x t = take-all (length t) (stamped x t) (omega (arith, stamped-length x t head)) in
     ap (λ (l : List ℕ). paste l (at + 8) y 9) (rw (take-length t) (append-assoc (take at v) t q))
     ∙ paste-within (take at v) q t y at 8 9 lp (length-append (bytesOf 8 x) (bytesOf 1 1) ∙ ap₂ _+_ (length-bytesOf 8 x) (length-bytesOf 1 1)) (omega arith)
     ∙ sym (ap (λ (l : List ℕ). take at v ++ l ++ q) all ∙ append-assoc (take at v) (stamped x t) q)
@@ -77,4 +71,4 @@ stamped-slot d t w1 w2 k top x long room low head e1 e2 =
     let lw : length (paste v at t (length t)) ≡ length v = length-paste v at t (length t) (omega arith) (omega arith) in
     let l1 : length w1 ≡ length v = ap length e1 ∙ lw in
     e2 ∙ two w1 at x (omega arith) ∙ ap (λ (w : List ℕ). paste w (at + 8) (bytesOf 8 x ++ bytesOf 1 1) 9) e1 ∙ stamped-part v t at x (omega arith) head
-    ∙ sym (rw (length-stamped x t head))
+    ∙ sym (rw (stamped-length x t head))

@@ -32,7 +32,8 @@ set-front xs ys y h =
     let n : length (xs ++ (y ∷ [])) ≡ suc (length xs) = length-append xs (y ∷ []) ∙ omega arith in
     rw (n, drop-cons ys (length xs) (closedBy 0 0 0 0) h, append-assoc xs (y ∷ []) (drop (suc (length xs)) ys)) (set-at xs _ _ y (length xs) refl)
 
-length-records : (all es : List Entry) → length (recordsOf all es) ≡ count isBegin es
+-- one record for each Begin
+pub length-records : (all es : List Entry) → length (recordsOf all es) ≡ count isBegin es
 unfolding recordsOf
 length-records all [] = refl
 length-records all (e ∷ es) = go (isBegin e) (length-records all es)

@@ -116,14 +116,3 @@ pub fn fill(log: &[u8], a: Answer, table: &mut [Record])
         i += 1;
     }
 }
-
-// The same for a table of four records that is passed and given back.
-pub fn filled4(log: &[u8], a: Answer, rows: [Record; 4]) -> [Record; 4]
-    requires { ⌜ (a .number ≡ 0 → Ordered (now log)) ⌝ }
-    requires { ⌜ (a .number ≡ 0 → (endOf (now log) ≡ a .tail) × (length (now log) ≤ 16777216) × (count isBegin (entries (now log)) ≤ 4)) ⌝ }
-    ensures { λ r. ⌜ r ≡ pick (eqb (a .number) 0) (tableAfter (entries (now (log .entry))) rows) rows ⌝ }
-{
-    let mut t = rows;
-    fill(log, a, &mut t);
-    t
-}

@@ -1,15 +1,13 @@
 -- A flat table and its records. Assumes nothing.
-use Prim.Native.Nat.{ℕ, zero, suc, _+_, _*_, _/_, _≤_, _<_}
+use Prim.Native.Nat.{ℕ, zero, suc, _+_, _*_, _/_, _≤_}
 use mathlib.Core.Path.{_≡_, refl, sym, ap, ap₂, _∙_}
-use mathlib.Core.Bool.{Bool, true, false}
 use mathlib.Core.List.{List, [], _∷_, _++_, append-assoc}
 use native.Mathlib.Omega.{arith}
-use lib.ListN.{length, drop, length-append}
+use lib.ListN.{length, drop}
 use Rattle.wal.specs.Entry.{Entry}
-use Rattle.rules.specs.Order.{one, count, isBegin}
-use Rattle.rules.specs.Recover.{recordOf, consIf, recordsOf, tableAfter}
+use Rattle.rules.specs.Recover.{recordsOf, tableAfter}
 use Rattle.rules.specs.declared.Record.{Record}
-use Rattle.tally.specs.Flat.{four, flat, flatAfter}
+use Rattle.tally.specs.Flat.{flat, flatAfter}
 use Rattle.tally.proofs.Records.{flat-append}
 use Rattle.recovery.specs.Flat.{rows, left}
 
@@ -43,16 +41,6 @@ flat-drop (suc k) (r ∷ rs) l h =
     let e : suc (suc (suc (suc (4 * k)))) ≡ 4 * suc k = omega arith in
     let y : drop (4 * k) (flat rs ++ l) ≡ drop (suc (suc (suc (suc (4 * k))))) (flat (r ∷ rs) ++ l) = refl in
     flat-drop k rs l (omega arith) ∙ y ∙ ap (λ (n : ℕ). drop n (flat (r ∷ rs) ++ l)) e
-
--- one record for each Begin
-pub records-begins : (all es : List Entry) → length (recordsOf all es) ≡ count isBegin es
-unfolding recordsOf
-records-begins all [] = refl
-records-begins all (e ∷ es) = go (isBegin e) (records-begins all es)
-  where
-    go : (b : Bool) → length (recordsOf all es) ≡ count isBegin es → length (consIf b (recordOf all e) (recordsOf all es)) ≡ one b + count isBegin es
-    go true h = omega (arith, h)
-    go false h = omega (arith, h)
 
 -- writing the records of entries is the same both ways
 pub flat-after : (es : List Entry) (t : List ℕ) → length (recordsOf es es) ≤ length (rows t) → flat (tableAfter es (rows t)) ++ left t ≡ flatAfter es t

@@ -1,6 +1,6 @@
 -- The row header and the payload of an image. Assumes nothing.
-use Prim.Native.Nat.{ℕ, zero, suc, _+_, _-_, _*_, _^_, _≤_, _<_}
-use mathlib.Core.Path.{_≡_, refl, sym, ap, ap₂, _∙_}
+use Prim.Native.Nat.{ℕ, _+_, _-_, _^_, _≤_, _<_}
+use mathlib.Core.Path.{_≡_, refl, sym, ap, _∙_}
 use mathlib.Core.Bool.{Bool, true, false}
 use mathlib.Core.Logic.{_⊎_, inl, inr}
 use mathlib.Core.List.{List, [], _∷_, _++_, append-assoc}
@@ -12,12 +12,11 @@ use borrow.Author.Tests.{eq-eqb, ne-eqb}
 use Rattle.endian.specs.Pick.{pick}
 use Rattle.endian.specs.Numbers.{part, numberAt, numberOf, bytesOf}
 use Rattle.endian.proofs.Numbers.{length-bytesOf, number-back}
-use Rattle.endian.proofs.Places.{part-append, number-same, number-append, number-byte, number-take, number-drop}
+use Rattle.endian.proofs.Places.{number-append, number-byte, number-take, number-drop}
 use Rattle.page.specs.Layout.{xminOf, xmaxOf, deletedOf, payloadOf}
 use Rattle.page.specs.Fault.{verdict}
 use Rattle.rules.specs.Shape.{stamped}
 use Rattle.rules.specs.Row.{headOf, refusedRow}
-use Rattle.rules.specs.declared.RowHead.{RowHead}
 use Rattle.rules.proofs.ImageLaws.{stamped-length, stamped-deleted}
 use Rattle.images.specs.declared.Image.{Image}
 use Rattle.images.specs.Tuples.{Lies, tupleIn}

@@ -4,18 +4,17 @@ use mathlib.Core.Path.{_≡_, refl, sym, ap, _∙_}
 use mathlib.Core.Bool.{Bool, true, false}
 use mathlib.Core.List.{List, [], _∷_, _++_, append-assoc, append-nil}
 use native.Mathlib.Omega.{arith}
-use lib.ListN.{length}
-use lib.Dec.{ltb, leb, eqb, eqb·suc-zero}
+use lib.Dec.{ltb, leb}
 use borrow.Author.Tests.{eq-eqb, ne-eqb, lt-ltb, le-ltb, leb-false}
 use Rattle.endian.specs.Pick.{pick}
 use Rattle.wal.specs.Entry.{Entry, sizeOf}
-use Rattle.wal.specs.Read.{first, headerFault, readAt}
-use Rattle.wal.specs.Walk.{entries, endOf}
+use Rattle.wal.specs.Read.{first, headerFault}
+use Rattle.wal.specs.Walk.{entries}
 use Rattle.page.specs.Layout.{pagesIn}
 use Rattle.page.specs.Fault.{verdict, accepted, sizeWrong}
 use Rattle.page.specs.declared.Verdict.{Verdict}
 use Rattle.rules.specs.Shape.{both, isKnown, isShaped}
-use Rattle.rules.specs.Order.{one, count, any, isBegin, lastLsn, inOrder, clashes, fullAt, neverFull, faultAfter, orElse, orderFrom, endVerdict, logVerdict, _then_}
+use Rattle.rules.specs.Order.{one, count, any, isBegin, lastLsn, inOrder, clashes, fullAt, neverFull, faultAfter, orElse, orderFrom, logVerdict, _then_}
 use Rattle.rules.specs.Recover.{pagesFrom, strayFrom, tightFrom, recoverVerdict}
 use Rattle.rules.proofs.Tests.{into, past}
 use Rattle.rules.proofs.OrderLaws.{InTurn, in-turn}
@@ -30,9 +29,9 @@ then-refused v w h = rw (ne-eqb (v .number) 0 h)
 pub then-accepted : (v w : Verdict) → v .number ≡ 0 → (v then w) ≡ w
 then-accepted v w h = rw (eq-eqb (v .number) 0 h)
 
-told-number : (n at : ℕ) → told n at .number ≡ n
-told-number zero at = refl
-told-number (suc n) at = rw (eqb·suc-zero n)
+-- a number other than 0 is told as it is
+pub told-refused : (n at : ℕ) → (n ≡ 0 → ⊥) → told n at ≡ verdict n at
+told-refused n at h = rw (ne-eqb n 0 h)
 
 -- ---- an accepted log
 module _ (full : ℕ → Bool) (log : List ℕ) (h : logVerdict full log .number ≡ 0) where

@@ -1,40 +1,34 @@
 -- What judging tells, refusal by refusal, and what an accepted log and accepted pages are. Assumes nothing.
-use Prim.Native.Nat.{ℕ, zero, suc, _+_, _*_, _%_, _/_, _≤_, _<_}
-use mathlib.Core.Path.{_≡_, refl, sym, ap, _∙_, subst}
+use Prim.Native.Nat.{ℕ, _+_, _*_, _%_, _≤_, _<_}
+use mathlib.Core.Path.{_≡_, sym, ap, _∙_}
 use mathlib.Core.Bool.{Bool, true, false}
 use mathlib.Core.List.{List, [], _∷_, _++_}
 use native.Mathlib.Omega.{arith}
 use lib.ListN.{length}
-use lib.Dec.{ltb, eqb}
+use lib.Dec.{ltb}
 use borrow.Author.Tests.{eq-eqb, ne-eqb}
-use Rattle.endian.specs.Pick.{pick}
 use Rattle.wal.specs.Entry.{Entry}
 use Rattle.wal.specs.Read.{first}
 use Rattle.wal.specs.Walk.{entries, endOf}
 use Rattle.wal.proofs.Prefix.{met-end, before-end}
-use Rattle.page.specs.Layout.{pageBytes, pagesIn, pageAt}
+use Rattle.page.specs.Layout.{pageBytes, dataType, pagesIn, pageAt, typeOf}
 use Rattle.page.specs.Fault.{verdict, accepted, sizeWrong}
-use Rattle.page.specs.Good.{Good}
 use Rattle.page.specs.declared.Verdict.{Verdict}
 use Rattle.page.proofs.FaultLaws.{sound-good}
 use Rattle.page.proofs.Verdicts.{page-length, right-size}
-use Rattle.rules.specs.Order.{lastLsn, logVerdict, neverFull}
-use Rattle.rules.specs.Mend.{topOf}
-use Rattle.rules.specs.Recover.{pagesFrom, strayFrom, tightFrom, recoverVerdict}
+use Rattle.rules.specs.Order.{logVerdict, neverFull}
+use Rattle.rules.specs.Recover.{pagesFrom, strayFrom, recoverVerdict}
 use Rattle.rules.proofs.OrderLaws.{InTurn, in-turn}
-use Rattle.rules.proofs.Verdicts.{Sane, pages-sane, Lent, lent-all, stray-none, Accepted, is-accepted}
+use Rattle.rules.proofs.Verdicts.{Sane, pages-sane, lent-all, stray-none}
 use Rattle.order.specs.First.{told}
 use Rattle.order.specs.declared.Walked.{Walked}
 use Rattle.fates.specs.Fate.{Ordered}
 use Rattle.cells.specs.Measure.{Sound as Rises}
 use Rattle.cells.proofs.Soundness.{Rising, sound-of}
 use Rattle.checks.specs.Judged.{Judged}
-use Rattle.images.specs.Page.{Sound, Touched, Fitting}
+use Rattle.images.specs.Page.{Sound, Touched}
 use Rattle.recovery.specs.Judgement.{Judgement}
-use Rattle.recovery.proofs.JudgeLaws.{judge-log}
-
-told-refused : (n at : ℕ) → (n ≡ 0 → ⊥) → told n at ≡ verdict n at
-told-refused n at h = rw (ne-eqb n 0 h)
+use Rattle.recovery.proofs.JudgeLaws.{told-refused, judge-log}
 
 -- ---- what an accepted log is
 
@@ -60,6 +54,12 @@ size-many pages h = rw (eq-eqb _ 0 h)
 pub size-is : (pages : List ℕ) → sizeWrong pages ≡ false → (length pages ≡ pagesIn pages * pageBytes) × (pagesIn pages ≤ 4096)
 size-is pages h = let r = right-size pages h in (omega (arith, r .0), r .1)
 
+-- a page that is not refused by 11, and of type 1
+pub sane-sound : {magic floor last : ℕ} {pages : List ℕ} {i : ℕ} → Sane magic floor last pages i → i < pagesIn pages → typeOf (pageAt i pages) ≡ dataType → Sound (pageAt i pages)
+sane-sound {magic} {floor} {last} {pages} {i} s l d =
+    let y = page-length pages i l in
+    record { size = y; good = sound-good magic i (pageAt i pages) y (s .sound) .dataGood d }
+
 -- each touched page is lent, good and a Data page
 pub touched-ok : (magic floor last : ℕ) (pages log : List ℕ) (n : ℕ) → n ≡ pagesIn pages → pagesFrom magic floor last pages (pagesIn pages) 0 .number ≡ 0
     → strayFrom pages (entries log) first .number ≡ 0 → Touched log pages 0 n
@@ -67,9 +67,7 @@ touched-ok magic floor last pages log n e p s =
     record {
       at = λ i a b t.
           let l = lent-all pages i (entries log) (stray-none pages (entries log) first s) t in
-          let z = pages-sane magic floor last pages (pagesIn pages) 0 p i (omega arith) (omega (arith, l .lent)) in
-          let y = page-length pages i (l .lent) in
-          record { size = y; good = sound-good magic i (pageAt i pages) y (z .sound) .dataGood (l .isData) };
+          sane-sound (pages-sane magic floor last pages (pagesIn pages) 0 p i (omega arith) (omega (arith, l .lent))) (l .lent) (l .isData);
     }
 
 -- ---- the verdict, told

@@ -1,38 +1,33 @@
 -- What recovery gives, refused and done. Assumes nothing.
-use Prim.Native.Nat.{ℕ, zero, suc, _+_, _*_, _/_, _≤_, _<_}
+use Prim.Native.Nat.{ℕ, _*_, _/_, _≤_, _<_}
 use mathlib.Core.Path.{_≡_, refl, sym, ap, _∙_}
 use mathlib.Core.Bool.{Bool, true, false}
-use mathlib.Core.List.{List, [], _∷_, _++_}
-use native.Mathlib.Omega.{arith}
+use mathlib.Core.List.{List, []}
 use lib.ListN.{length}
-use lib.Dec.{ltb, eqb}
+use lib.Dec.{eqb}
 use borrow.Author.Tests.{eq-eqb, ne-eqb, eqb-true}
-use Rattle.endian.specs.declared.Lsn.{Lsn}
 use Rattle.wal.specs.Entry.{Entry}
 use Rattle.wal.specs.Walk.{entries, endOf}
 use Rattle.page.specs.Layout.{pageBytes, dataType, pagesIn, pageAt, typeOf}
 use Rattle.page.specs.Fault.{verdict, accepted}
 use Rattle.page.specs.declared.Verdict.{Verdict}
-use Rattle.page.proofs.FaultLaws.{sound-good}
-use Rattle.page.proofs.Verdicts.{page-length, right-size}
 use Rattle.rules.specs.Order.{count, isBegin, fullAt, lastLsn}
-use Rattle.rules.specs.Mend.{topOf}
-use Rattle.rules.specs.Recover.{recoverVerdict, recordsOf, tableAfter, touchedFrom, mendedFrom, refused, done, Recovered, recoverBy, recoverOf}
+use Rattle.rules.specs.Recover.{recoverVerdict, tableAfter, touchedFrom, mendedFrom, refused, done, Recovered, recoverBy, recoverOf}
 use Rattle.rules.specs.declared.Answer.{Answer}
 use Rattle.rules.specs.declared.Record.{Record}
-use Rattle.rules.proofs.Verdicts.{Accepted, is-accepted}
-use Rattle.order.specs.First.{told}
+use Rattle.rules.proofs.Verdicts.{is-accepted}
 use Rattle.order.specs.declared.Walked.{Walked}
 use Rattle.fates.specs.Fate.{Ordered}
 use Rattle.tally.specs.Counts.{tallyOf}
 use Rattle.tally.specs.Flat.{flatAfter}
 use Rattle.checks.proofs.LogLaws.{header-fits}
-use Rattle.recovery.specs.Flat.{rows, left, FlatRecovered, flattened, recoverFlat}
+use Rattle.records.proofs.Filling.{length-records}
+use Rattle.recovery.specs.Flat.{rows, FlatRecovered, flattened, recoverFlat}
 use Rattle.images.specs.Page.{Sound, Touched, Fitting}
 use Rattle.recovery.specs.Judgement.{Judgement, answerFrom}
-use Rattle.recovery.proofs.FlatLaws.{records-begins, length-rows, flat-rows, flat-after}
-use Rattle.recovery.proofs.JudgeLaws.{header-ok, ordered-ok, begins-fit}
-use Rattle.recovery.proofs.Judging.{size-is}
+use Rattle.recovery.proofs.FlatLaws.{length-rows, flat-rows, flat-after}
+use Rattle.recovery.proofs.JudgeLaws.{told-refused, header-ok, ordered-ok, begins-fit}
+use Rattle.recovery.proofs.Judging.{size-is, sane-sound}
 
 -- ---- refused and done
 
@@ -49,9 +44,6 @@ unfolding done tallyOf
 done-is es end n = refl
 
 -- ---- a judgement
-
-told-refused : (n at : ℕ) → (n ≡ 0 → ⊥) → told n at ≡ verdict n at
-told-refused n at h = rw (ne-eqb n 0 h)
 
 module _ {full : ℕ → Bool} {magic floor : ℕ} {pages log starts lasts : List ℕ} {w : Walked} (j : Judgement full magic floor pages log starts lasts w) where
   pub verdict-refused : (w .number ≡ 0 → ⊥) → recoverVerdict full magic floor pages log ≡ verdict (w .number) (w .place)
@@ -75,10 +67,7 @@ module _ {full : ℕ → Bool} {magic floor : ℕ} {pages log starts lasts : Lis
 
 pub sound-page : (full : ℕ → Bool) (magic floor : ℕ) (pages log : List ℕ) → recoverVerdict full magic floor pages log .number ≡ 0 → (i : ℕ) → i < pagesIn pages
     → typeOf (pageAt i pages) ≡ dataType → Sound (pageAt i pages)
-sound-page full magic floor pages log h i l d =
-    let a = is-accepted full magic floor pages log h in
-    let y = page-length pages i l in
-    record { size = y; good = sound-good magic i (pageAt i pages) y (a .sane i l .sound) .dataGood d }
+sound-page full magic floor pages log h i l d = sane-sound (is-accepted full magic floor pages log h .sane i l) l d
 
 pub record Sure (log pages : List ℕ) : Type 0 where
   pub ordered : Ordered log
@@ -97,12 +86,7 @@ sure full magic floor pages log h =
       small = header-fits log (header-ok full log (a .logOk));
       size = z .0;
       few = z .1;
-      touched = record {
-        at = λ i l m t.
-            let k = a .lent i t in
-            let y = page-length pages i (k .lent) in
-            record { size = y; good = sound-good magic i (pageAt i pages) y (a .sane i (k .lent) .sound) .dataGood (k .isData) };
-      };
+      touched = record { at = λ i l m t. let k = a .lent i t in sound-page full magic floor pages log h i (k .lent) (k .isData) };
       fitting = record { at = λ i l m t. a .roomy i m t };
     }
 
@@ -163,7 +147,7 @@ module _ (magic floor : ℕ) (pages log table : List ℕ) where
 
   pub flat-done : recoverVerdict (fullAt (length table / 4)) magic floor pages log .number ≡ 0 → flatAfter (entries log) table ≡ recoverFlat magic floor pages log table .table
   flat-done z =
-      sym (flat-after (entries log) table (rw (records-begins (entries log) (entries log), length-rows table) (begins-of (length table / 4) magic floor pages log z)))
+      sym (flat-after (entries log) table (rw (length-records (entries log) (entries log), length-rows table) (begins-of (length table / 4) magic floor pages log z)))
       ∙ ap (λ (r : Recovered). flattened r table .table) (sym (by-done Judged pages log (rows table) z)) ∙ ap (λ (r : FlatRecovered). r .table) (sym flat-is)
 
   pub flat-refused : (recoverVerdict (fullAt (length table / 4)) magic floor pages log .number ≡ 0 → ⊥) → table ≡ recoverFlat magic floor pages log table .table

@@ -1,19 +1,16 @@
 -- Where a row's tuple stands, in the log or in the page area. Assumes nothing.
-use Prim.Native.Nat.{ℕ, zero, suc, _+_, _-_, _*_, _/_, _^_, _≤_, _<_}
+use Prim.Native.Nat.{ℕ, suc, _+_, _-_, _*_, _≤_, _<_}
 use mathlib.Core.Path.{_≡_, refl, sym, ap, _∙_}
 use mathlib.Core.Bool.{Bool, true, false}
 use mathlib.Core.Logic.{_⊎_, inl, inr}
-use mathlib.Core.List.{List, [], _∷_, _++_}
+use mathlib.Core.List.{List, []}
 use native.Mathlib.Omega.{arith}
-use lib.ListN.{length, take, drop, getD}
-use lib.Dec.{leb, eqb}
+use lib.ListN.{length, drop, getD}
 use borrow.Author.Tests.{eq-eqb, ne-eqb, le-leb, lt-leb}
 use Rattle.rules.proofs.Tests.{false-true}
-use Rattle.endian.specs.Pick.{pick}
-use Rattle.endian.specs.Numbers.{part, numberAt, Bytes}
+use Rattle.endian.specs.Numbers.{part, Bytes}
 use Rattle.endian.specs.declared.TxnNumber.{TxnNumber}
 use Rattle.endian.proofs.Places.{part-take, part-drop, number-byte, number-take, number-drop}
-use Rattle.wal.specs.Entry.{Entry}
 use Rattle.wal.specs.Read.{first}
 use Rattle.wal.specs.Walk.{entries}
 use Rattle.page.specs.Layout.{pageBytes, dataType, pagesIn, pageAt, typeOf, slotAt}
@@ -21,14 +18,14 @@ use Rattle.page.specs.Fault.{verdict, accepted}
 use Rattle.page.specs.Good.{TupleGood}
 use Rattle.page.specs.declared.Verdict.{Verdict}
 use Rattle.rules.specs.Shape.{stamped, isChange, isShaped, beforeOf, afterOf}
-use Rattle.rules.specs.Order.{neverFull, _then_}
+use Rattle.rules.specs.Order.{neverFull}
 use Rattle.rules.specs.Mend.{committed, changes, topOf, decided}
 use Rattle.rules.specs.Recover.{recoverVerdict}
 use Rattle.rules.specs.Row.{rowVerdict, tupleOf}
 use Rattle.rules.proofs.Slots.{Images, decided-keeps}
 use Rattle.rules.proofs.Accepted.{slot-good}
 use Rattle.rules.proofs.ImageLaws.{images-good, images-of}
-use Rattle.rules.proofs.OrderLaws.{Every, every-map, in-turn, all-shaped}
+use Rattle.rules.proofs.OrderLaws.{every-map, in-turn, all-shaped}
 use Rattle.fates.specs.Fate.{Ordered}
 use Rattle.cells.specs.Cell.{startOf}
 use Rattle.cells.proofs.CellLaws.{start-next}
