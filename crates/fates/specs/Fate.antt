@@ -25,7 +25,7 @@ pub record Kept (s : List ℕ) (v : ℕ) : Type 0 where
   pub within : 0 < v → v / 4 + 20 ≤ length s
   pub is : 0 < v → outcomeOf (entries s) (numberAt 8 (v / 4 + 12) s) ≡ v % 4
 
--- how many answers are kept; that on transaction t stands at t modulo this
+-- how many answers are kept
 abbrev pub answers : ℕ
 answers = 16384
 

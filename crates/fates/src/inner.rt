@@ -45,7 +45,7 @@ fn kept(log: &[u8], v: u32, t: u64) -> bool
     u64_at(log, (v / 4 + 12) as usize) == t
 }
 
-// The outcome of transaction t, of which an entry stands at place: 1 committed, 2 rolled back, 0 neither. Answers are kept in memo.
+// The outcome of transaction t, of which an entry stands at place: 1 committed, 2 rolled back, 0 neither. The newest two answers on each remainder are kept.
 pub fn fate(log: &[u8], place: usize, t: u64, end: usize, memo: &mut [u32; 16384]) -> u64
     requires { ⌜ Met (now log) place ⌝ }
     requires { ⌜ Stands (now log) place ⌝ }
@@ -55,12 +55,38 @@ pub fn fate(log: &[u8], place: usize, t: u64, end: usize, memo: &mut [u32; 16384
     ensures { λ r. ⌜ r ≡ outcomeOf (entries (now (log .entry))) t ⌝ }
     ensures { λ _. ⌜ Memo (now (log .entry)) (now (memo .exit)) ⌝ }
 {
-    let i = (t % 16384) as usize;
+    let i = (t % 8192) as usize;
     let v = memo[i];
     if kept(log, v, t) {
         return (v % 4) as u64;
     }
+    let w = memo[i + 8192];
+    if kept(log, w, t) {
+        return (w % 4) as u64;
+    }
     let r = look(log, place, end, t);
+    memo[i + 8192] = v;
     memo[i] = (4 * place + r as usize) as u32;
     r
+}
+
+// Keeps the outcome of a transaction where its ending stands at place. A walk backward meets it there before the transaction's changes, and need not look for it.
+pub fn recall(log: &[u8], place: usize, kind: u8, t: u64, end: usize, memo: &mut [u32; 16384])
+    requires { ⌜ Met (now log) place ⌝ }
+    requires { ⌜ Stands (now log) place ⌝ }
+    requires { ⌜ Ordered (now log) ⌝ }
+    requires { ⌜ Memo (now log) (now memo) ⌝ }
+    requires { ⌜ (endOf (now log) ≡ end) × (t ≡ said (now log) place .txn) × (length (now log) ≤ 16777216) ⌝ }
+    ensures { λ _. ⌜ Memo (now (log .entry)) (now (memo .exit)) ⌝ }
+{
+    if kind < 2 {
+        return;
+    }
+    if 3 < kind {
+        return;
+    }
+    if t == 0 {
+        return;
+    }
+    fate(log, place, t, end, memo);
 }
