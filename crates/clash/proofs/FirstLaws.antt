@@ -6,13 +6,11 @@ use mathlib.Core.List.{List}
 use native.Mathlib.Omega.{arith}
 use native.Mathlib.Decide.{decLt, ℕ-discrete}
 use lib.ListN.{replicate}
-use Rattle.wal.specs.Entry.{entryOf}
-use Rattle.wal.specs.Read.{lengthAt, view}
-use Rattle.wal.specs.declared.EntryView.{EntryView}
-use Rattle.wal.specs.Prefix.{entryIn, Met, Stands, said, before}
+use Rattle.wal.specs.Read.{lengthAt}
+use Rattle.wal.specs.Prefix.{Met, Stands, said, before}
 use Rattle.wal.proofs.Prefix.{met-first, met-next, met-from, met-below, Below}
-use Rattle.order.specs.Hints.{Hints, Highest}
-use Rattle.order.proofs.HintLaws.{hints-first, highest-first, highest-next}
+use Rattle.order.specs.Hints.{Hints}
+use Rattle.order.proofs.HintLaws.{hints-first}
 use Rattle.rules.proofs.Tests.{both-true}
 use Rattle.clash.specs.First.{isIn, clashIn, FirstIn}
 use Rattle.clash.specs.Group.{Group, cellFor, noted}
@@ -35,17 +33,16 @@ clean-next lo hi s p m h z c = record { none = λ q n l. go q n l (decLt q p) (�
     go q n l (no b) (no e) = absurd (omega (arith, met-below s m n (omega arith) .next))
 
 -- ---- a walk for clashes
-pub record Sweeping (s hints : List ℕ) (limit lo hi at high : ℕ) : Type 0 where
+pub record Sweeping (s hints : List ℕ) (limit lo hi at : ℕ) : Type 0 where
   pub met : Met s at
   pub upTo : at ≤ limit
   pub hinted : Hints s at hints
-  pub highest : Highest s at high
   pub clean : Clean lo hi s at
 
-pub sweeping-first : {s : List ℕ} {limit : ℕ} (lo hi : ℕ) → Met s limit → Sweeping s (replicate 16384 32) limit lo hi 32 0
-sweeping-first {s} lo hi m = record { met = met-first s; upTo = met-from s m; hinted = hints-first s; highest = highest-first s; clean = clean-first lo hi s }
+pub sweeping-first : {s : List ℕ} {limit : ℕ} (lo hi : ℕ) → Met s limit → Sweeping s (replicate 16384 32) limit lo hi 32
+sweeping-first {s} lo hi m = record { met = met-first s; upTo = met-from s m; hinted = hints-first s; clean = clean-first lo hi s }
 
-module _ {s hints : List ℕ} {limit lo hi at high : ℕ} (k : Sweeping s hints limit lo hi at high) (end : Met s limit) where
+module _ {s hints : List ℕ} {limit lo hi at : ℕ} (k : Sweeping s hints limit lo hi at) (end : Met s limit) where
   -- at the limit there was none
   pub none-found : limit ≤ at → FirstIn lo hi s limit limit
   none-found h =
@@ -64,14 +61,12 @@ module _ {s hints : List ℕ} {limit lo hi at high : ℕ} (k : Sweeping s hints 
     one-found c = record { met = k .met; low = k .upTo; none = k .clean .none; some = λ l. both-true (isIn lo hi (said s at)) _ c .1 }
 
     -- an entry more
-    pub sweeping-next : (hints2 : List ℕ) (high2 next : ℕ) → clashIn lo hi s at ≡ false → next ≡ at + lengthAt s at → Hints s next hints2 → high ≤ high2 → said s at .txn ≤ high2
-        → Sweeping s hints2 limit lo hi next high2
-    sweeping-next hints2 high2 next z e g a b =
+    pub sweeping-next : (hints2 : List ℕ) (next : ℕ) → clashIn lo hi s at ≡ false → next ≡ at + lengthAt s at → Hints s next hints2 → Sweeping s hints2 limit lo hi next
+    sweeping-next hints2 next z e g =
         record {
           met = subst (Met s) (sym e) (met-next s (k .met) sweeping-stands);
           upTo = omega (arith, here .next);
           hinted = g;
-          highest = subst (λ (x : ℕ). Highest s x high2) (sym e) (highest-next s at (k .met) sweeping-stands high high2 a b (k .highest));
           clean = subst (Clean lo hi s) (sym e) (clean-next lo hi s at (k .met) sweeping-stands z (k .clean));
         }
 

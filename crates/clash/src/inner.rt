@@ -3,11 +3,10 @@ ghost use mathlib.Core.Path.{_≡_};
 ghost use mathlib.Core.Bool.{true, false};
 ghost use Prim.Native.Nat.{_+_, _-_, _^_, _≤_, _<_};
 ghost use lib.ListN.{length, getD};
-ghost use Rattle.wal.specs.Read.{lengthAt};
 ghost use Rattle.wal.specs.Prefix.{Met, Stands, said, before};
 ghost use Rattle.rules.specs.Shape.{isChange, isShaped, pageOf, slotOf};
 ghost use Rattle.order.specs.Clash.{clashAfter};
-ghost use Rattle.order.specs.Hints.{Hints, Highest};
+ghost use Rattle.order.specs.Hints.{Hints};
 ghost use Rattle.cells.specs.Cell.{Starts, Blank};
 ghost use Rattle.cells.specs.Measure.{Sound, FirstBeyond};
 ghost use Rattle.clash.specs.Newest.{onSlot, newestOn, txnBy};
@@ -20,7 +19,6 @@ use cells::inner::page_at;
 use endian::inner::u16_at;
 use endian::inner::u64_at;
 use order::inner::is_change;
-use order::inner::larger;
 use order::inner::mark;
 use order::inner::state_at;
 use wal::FIRST;
@@ -28,10 +26,9 @@ use wal::inner::place_before;
 use wal::inner::standing;
 
 // Whether the change at `at`, by transaction t, clashes with the newest one on its slot, which is by transaction u.
-fn clashes_with(log: &[u8], at: usize, t: u64, u: u64, hints: &[u32; 16384], high: u64) -> bool
+fn clashes_with(log: &[u8], at: usize, t: u64, u: u64, hints: &[u32; 16384]) -> bool
     requires { ⌜ (t ≡ said (now log) at .txn) × (isChange (said (now log) at) ≡ true) × (u ≡ newestOn (pageOf (said (now log) at)) (slotOf (said (now log) at)) 0 (before (now log) at)) ⌝ }
     requires { ⌜ Hints (now log) at (now hints) ⌝ }
-    requires { ⌜ Highest (now log) at high ⌝ }
     ensures { λ r. ⌜ r ≡ clashAfter (before (now (log .entry)) at) (said (now (log .entry)) at) ⌝ }
 {
     if u == 0 {
@@ -40,7 +37,7 @@ fn clashes_with(log: &[u8], at: usize, t: u64, u: u64, hints: &[u32; 16384], hig
     if u == t {
         return false;
     }
-    state_at(log, at, hints, high, u) == 1
+    state_at(log, at, hints, u) == 1
 }
 
 // The transaction of the change at the place that a cell holds; 0 for none.
@@ -88,14 +85,12 @@ fn touch(
     hi: usize,
     cells: &mut [u32],
     hints: &[u32; 16384],
-    high: u64,
 ) -> bool
     requires { ⌜ (kind ≡ said (now log) at .kind) × (isShaped (said (now log) at) ≡ true) × (lo ≤ hi) × (hi ≤ 4096) ⌝ }
     requires { ⌜ (t ≡ said (now log) at .txn) × (length (now log) ≤ 16777216) × (length (now cells) ≡ 131072) ⌝ }
     requires { ⌜ Stands (now log) at ⌝ }
     requires { ⌜ Known (now log) (now starts) (now cells) lo hi at ⌝ }
     requires { ⌜ Hints (now log) at (now hints) ⌝ }
-    requires { ⌜ Highest (now log) at high ⌝ }
     ensures { λ r. ⌜ r ≡ clashIn lo hi (now (log .entry)) at ⌝ }
     ensures { λ r. ⌜ now (cells .exit) ≡ noted r (cellFor (now (starts .entry)) lo hi (said (now (log .entry)) at)) at (now (cells .entry)) ⌝ }
 {
@@ -104,7 +99,7 @@ fn touch(
         return false;
     }
     let u = txn_by(log, cells[c]);
-    if clashes_with(log, at, t, u, hints, high) {
+    if clashes_with(log, at, t, u, hints) {
         return true;
     }
     cells[c] = at as u32;
@@ -128,26 +123,13 @@ fn clash_in(
 {
     let mut hints = [32u32; 16384];
     let mut at = FIRST;
-    let mut high: u64 = 0;
     while at < limit {
         let v = standing(log, at);
-        if touch(
-            log,
-            at,
-            v.kind,
-            v.txn.0,
-            starts,
-            lo,
-            hi,
-            cells,
-            &hints,
-            high,
-        ) {
+        if touch(log, at, v.kind, v.txn.0, starts, lo, hi, cells, &hints) {
             return at;
         }
         let next = at + v.length;
         mark(log, at, next, v.txn.0, &mut hints);
-        high = larger(high, v.txn.0);
         at = next;
     }
     limit
@@ -188,21 +170,12 @@ fn newest_back(log: &[u8], place: usize, page: u64, slot: u16) -> u64
 }
 
 // Whether the entry at `at` clashes on a page that is none of the first n.
-fn touch_beyond(
-    log: &[u8],
-    at: usize,
-    kind: u8,
-    t: u64,
-    n: usize,
-    hints: &[u32; 16384],
-    high: u64,
-) -> bool
+fn touch_beyond(log: &[u8], at: usize, kind: u8, t: u64, n: usize, hints: &[u32; 16384]) -> bool
     requires { ⌜ (kind ≡ said (now log) at .kind) × (t ≡ said (now log) at .txn) × (isShaped (said (now log) at) ≡ true) ⌝ }
     requires { ⌜ Met (now log) at ⌝ }
     requires { ⌜ Stands (now log) at ⌝ }
     requires { ⌜ Shaped (now log) at ⌝ }
     requires { ⌜ Hints (now log) at (now hints) ⌝ }
-    requires { ⌜ Highest (now log) at high ⌝ }
     ensures { λ r. ⌜ r ≡ clashIn n (2 ^ 64) (now (log .entry)) at ⌝ }
 {
     if !is_change(kind) {
@@ -213,7 +186,7 @@ fn touch_beyond(
         return false;
     }
     let u = newest_back(log, at, page, u16_at(log, at + 35));
-    clashes_with(log, at, t, u, hints, high)
+    clashes_with(log, at, t, u, hints)
 }
 
 // The first clash before limit on a page that is none of the first n, or limit.
@@ -225,15 +198,13 @@ fn clash_beyond(log: &[u8], limit: usize, n: usize) -> usize
 {
     let mut hints = [32u32; 16384];
     let mut at = FIRST;
-    let mut high: u64 = 0;
     while at < limit {
         let v = standing(log, at);
-        if touch_beyond(log, at, v.kind, v.txn.0, n, &hints, high) {
+        if touch_beyond(log, at, v.kind, v.txn.0, n, &hints) {
             return at;
         }
         let next = at + v.length;
         mark(log, at, next, v.txn.0, &mut hints);
-        high = larger(high, v.txn.0);
         at = next;
     }
     limit

@@ -25,10 +25,10 @@ use Rattle.rules.specs.Order.{one, count, isBegin, lastLsn, orElse, endVerdict,
 use Rattle.rules.proofs.OrderLaws.{last-snoc}
 use Rattle.order.specs.State.{stateOf, basicAfter, basicFault, basicFrom}
 use Rattle.order.specs.Clash.{passed}
-use Rattle.order.specs.Hints.{Hints, Highest}
+use Rattle.order.specs.Hints.{Hints, Highs, raised}
 use Rattle.order.specs.First.{told, endNumber, FirstWalk}
 use Rattle.order.specs.Walking.{Walking}
-use Rattle.order.proofs.HintLaws.{hints-first, highest-first, highest-next}
+use Rattle.order.proofs.HintLaws.{hints-first, highs-first, highs-next}
 
 count-snoc : (f : Entry → Bool) (es : List Entry) (e : Entry) → count f (es ++ (e ∷ [])) ≡ count f es + one (f e)
 count-snoc f [] e = omega arith
@@ -45,12 +45,12 @@ told-end Torn at = refl
 told-end Damage at = refl
 
 module _ (full : ℕ → Bool) (s : List ℕ) where
-  pub walking-first : Walking full s (replicate 16384 32) 32 0 0 0
+  pub walking-first : Walking full s (replicate 16384 32) (replicate 16384 0) 32 0 0
   walking-first =
       record {
         met = met-first s;
         hinted = hints-first s;
-        highest = highest-first s;
+        highest = highs-first s;
         lastIs = sym (ap lastLsn (before-first s));
         begun = sym (ap (count isBegin) (before-first s));
         few = omega arith;
@@ -61,7 +61,7 @@ module _ (full : ℕ → Bool) (s : List ℕ) where
       first-passed : passed full [] (entries s) ≡ before s 32 ++ passed full (before s 32) (onward s 32)
       first-passed = rw (before-first s, onward-first s)
 
-  module _ {hints : List ℕ} {at last high begins : ℕ} (w : Walking full s hints at last high begins) (h : Stands s at) where
+  module _ {hints highs : List ℕ} {at last begins : ℕ} (w : Walking full s hints highs at last begins) (h : Stands s at) where
     -- the fault of the entry there
     pub fault-is : (state : ℕ) → state ≡ stateOf (said s at .txn) (before s at) → basicFault last state (full begins) (said s at) ≡ basicAfter full (before s at) (said s at)
     unfolding basicAfter
@@ -84,13 +84,13 @@ module _ (full : ℕ → Bool) (s : List ℕ) where
     passed-stop n z = rw (onward-next s h, z, eqb·suc-zero n)
 
     -- an entry more, if it breaks no rule
-    pub walking-next : (hints2 : List ℕ) (next high2 begins2 : ℕ) → basicAfter full (before s at) (said s at) ≡ 0 → next ≡ at + lengthAt s at → Hints s next hints2
-        → high ≤ high2 → said s at .txn ≤ high2 → begins2 ≡ begins + one (eqb (said s at .kind) begin) → Walking full s hints2 next (said s at .lsn) high2 begins2
-    walking-next hints2 next high2 begins2 z e k a b c =
+    pub walking-next : (hints2 highs2 : List ℕ) (next begins2 : ℕ) → basicAfter full (before s at) (said s at) ≡ 0 → next ≡ at + lengthAt s at → Hints s next hints2
+        → highs2 ≡ raised (said s at .txn) highs → begins2 ≡ begins + one (eqb (said s at .kind) begin) → Walking full s hints2 highs2 next (said s at .lsn) begins2
+    walking-next hints2 highs2 next begins2 z e k a c =
         record {
           met = subst (Met s) (sym e) (met-next s (w .met) h);
           hinted = k;
-          highest = subst (λ (x : ℕ). Highest s x high2) (sym e) (highest-next s at (w .met) h high high2 a b (w .highest));
+          highest = rw (e, a) (highs-next s at (w .met) h highs (w .highest));
           lastIs = sym (ap (λ (x : ℕ). lastLsn (before s x)) e ∙ ap lastLsn (before-next s (w .met) h) ∙ last-snoc (before s at) (said s at));
           begun = c ∙ ap (λ (x : ℕ). x + one (isBegin (said s at))) (w .begun) ∙ sym (ap (λ (x : ℕ). count isBegin (before s x)) e ∙ ap (count isBegin) (before-next s (w .met) h) ∙ count-snoc isBegin (before s at) (said s at));
           few = grows (eqb (said s at .kind) begin) c;
@@ -118,7 +118,7 @@ module _ (full : ℕ → Bool) (s : List ℕ) where
         }
 
   -- the same, as the entry was read
-  module _ {hints : List ℕ} {at last high begins : ℕ} (w : Walking full s hints at last high begins) (v : EntryView) (q : readAt s at ≡ Whole v) where
+  module _ {hints highs : List ℕ} {at last begins : ℕ} (w : Walking full s hints highs at last begins) (v : EntryView) (q : readAt s at ≡ Whole v) where
     pub read-stands : Stands s at
     read-stands = stands q
 
@@ -134,11 +134,11 @@ module _ (full : ℕ → Bool) (s : List ℕ) where
     read-txn = ap (λ (u : EntryView). u .txn .0) read-is
 
     -- what the fault's function asks
-    pub fault-asks : EntryAt s (v .place) v × (Hints s (v .place) hints × Highest s (v .place) high)
+    pub fault-asks : EntryAt s (v .place) v × (Hints s (v .place) hints × Highs s (v .place) highs)
     fault-asks =
         let k = entry-at s at q in
         let e = sym (k .here) in
-        (subst (λ (x : ℕ). EntryAt s x v) e k, (subst (λ (x : ℕ). Hints s x hints) e (w .hinted), subst (λ (x : ℕ). Highest s x high) e (w .highest)))
+        (subst (λ (x : ℕ). EntryAt s x v) e k, (subst (λ (x : ℕ). Hints s x hints) e (w .hinted), subst (λ (x : ℕ). Highs s x highs) e (w .highest)))
 
     pub fault-found : {n : ℕ} → n ≡ basicFault last (stateOf (v .txn .0) (before s (v .place))) (full begins) (entryOf s v) → n ≡ basicAfter full (before s at) (said s at)
     fault-found h =
@@ -150,17 +150,17 @@ module _ (full : ℕ → Bool) (s : List ℕ) where
     walked-bad zero b h = absurd (b refl)
     walked-bad (suc n) b h = walked-fault w read-stands n (sym h)
 
-    pub walking-on : (hints2 : List ℕ) (high2 begins2 : ℕ) → basicAfter full (before s at) (said s at) ≡ 0 → Hints s (at + v .length) hints2
-        → high ≤ high2 → v .txn .0 ≤ high2 → begins2 ≡ begins + one (eqb (v .kind) begin) → Walking full s hints2 (at + v .length) (v .lsn .0) high2 begins2
+    pub walking-on : (hints2 highs2 : List ℕ) (begins2 : ℕ) → basicAfter full (before s at) (said s at) ≡ 0 → Hints s (at + v .length) hints2
+        → highs2 ≡ raised (v .txn .0) highs → begins2 ≡ begins + one (eqb (v .kind) begin) → Walking full s hints2 highs2 (at + v .length) (v .lsn .0) begins2
     unfolding entryOf
-    walking-on hints2 high2 begins2 z k a b c =
+    walking-on hints2 highs2 begins2 z k a c =
         let e : at + v .length ≡ at + lengthAt s at = ap (λ (x : ℕ). at + x) read-length in
-        subst (λ (u : EntryView). Walking full s hints2 (at + v .length) (u .lsn .0) high2 begins2) (sym read-is)
-        (walking-next w read-stands hints2 (at + v .length) high2 begins2 z e k a (omega (arith, read-txn))
+        subst (λ (u : EntryView). Walking full s hints2 highs2 (at + v .length) (u .lsn .0) begins2) (sym read-is)
+        (walking-next w read-stands hints2 highs2 (at + v .length) begins2 z e k (a ∙ ap (λ (t : ℕ). raised t highs) read-txn)
         (c ∙ ap (λ (u : EntryView). begins + one (eqb (u .kind) begin)) read-is))
 
   -- the end of the log
-  module _ {hints : List ℕ} {at last high begins : ℕ} (w : Walking full s hints at last high begins) where
+  module _ {hints highs : List ℕ} {at last begins : ℕ} (w : Walking full s hints highs at last begins) where
     pub walked-end : (r : Reading) → r ≡ readAt s at → OneOf (1 ∷ 2 ∷ 3 ∷ []) (tagOf the-type r) → (n : ℕ) → n ≡ endNumber r → FirstWalk full s (record { number = n; place = at; last = record { 0 = last } })
     unfolding onward basicFrom passed
     walked-end r q k n z =

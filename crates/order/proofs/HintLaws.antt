@@ -1,25 +1,35 @@
--- Hints at the first place, after one entry more, and what they tell. Assumes nothing.
-use Prim.Native.Nat.{ℕ, _+_, _%_, _≤_, _<_}
+-- Hints and bounds at the first place, after one entry more, and what hints tell. Assumes nothing.
+use Prim.Native.Nat.{ℕ, _+_, _%_, _≤_, _<_, max}
 use mathlib.Core.Path.{_≡_, refl, sym, ap, _∙_, subst}
 use mathlib.Core.List.{List}
 use native.Mathlib.Omega.{arith}
 use native.Mathlib.Decide.{ℕ-discrete}
 use lib.ListN.{getD, set, replicate, getD-replicate, length-replicate, length-set}
-use lib.Seq.{getD-set-same, getD-set-other}
+use lib.Seq.{getD-set-same, getD-set-other, set-getD}
 use borrow.Author.Tests.{ne-eqb}
 use Rattle.wal.specs.Read.{lengthAt}
 use Rattle.wal.specs.Prefix.{Met, Stands, said, before}
 use Rattle.wal.proofs.Prefix.{met-first, met-next, before-first, before-next}
 use Rattle.order.specs.State.{stateFrom, stateOf}
-use Rattle.order.specs.Hints.{Hint, Hints, Highest}
+use Rattle.order.specs.Hints.{Hint, Hints, Highs, raised}
 use Rattle.order.proofs.States.{state-snoc}
 
 pub hints-first : (s : List ℕ) → Hints s 32 (replicate 16384 32)
 hints-first s = record { long = length-replicate {0} {A = ℕ} 16384 32; tell = λ r h. subst (Hint s 32 r) (sym (getD-replicate 16384 r 32 0 h)) (record { met = met-first s; same = λ t q. refl }) }
 
-pub highest-first : (s : List ℕ) → Highest s 32 0
+pub highs-first : (s : List ℕ) → Highs s 32 (replicate 16384 0)
 unfolding stateFrom
-highest-first s = record { above = λ t h. ap (stateOf t) (before-first s) }
+highs-first s = record { long = length-replicate {0} {A = ℕ} 16384 0; above = λ t h. ap (stateOf t) (before-first s) }
+
+-- a number that is raised, or high enough
+module _ (t : ℕ) (highs : List ℕ) where
+  pub raised-low : getD highs (t % 16384) 0 < t → set highs (t % 16384) t ≡ raised t highs
+  unfolding raised
+  raised-low h = ap (set highs (t % 16384)) (omega arith)
+
+  pub raised-high : t ≤ getD highs (t % 16384) 0 → highs ≡ raised t highs
+  unfolding raised
+  raised-high h = sym (ap (set highs (t % 16384)) (omega arith) ∙ set-getD highs (t % 16384) 0)
 
 module _ (s : List ℕ) (at : ℕ) (m : Met s at) (h : Stands s at) where
   -- an entry of another transaction does not alter a state
@@ -42,8 +52,19 @@ module _ (s : List ℕ) (at : ℕ) (m : Met s at) (h : Stands s at) where
             | no n ↦ subst (Hint s (at + lengthAt s at) r) (sym (getD-set-other hints (said s at .txn % 16384) r (at + lengthAt s at) 0 (λ e. n (sym e)))) (hint-other r (getD hints r 0) n (k .tell r b))
           ]
 
-  pub highest-next : (high new : ℕ) → high ≤ new → said s at .txn ≤ new → Highest s at high → Highest s (at + lengthAt s at) new
-  highest-next high new a b k = record { above = λ t q. state-keeps t (λ e. omega arith) ∙ k .above t (omega arith) }
+  pub highs-next : (highs : List ℕ) → Highs s at highs → Highs s (at + lengthAt s at) (raised (said s at .txn) highs)
+  unfolding raised
+  highs-next highs k = record { long = simp length-set (k .long); above = λ t. above t (ℕ-discrete (t % 16384) (said s at .txn % 16384)) }
+    where
+      new : ℕ
+      new = max (getD highs (said s at .txn % 16384) 0) (said s at .txn)
+
+      above : (t : ℕ) → Dec (t % 16384 ≡ said s at .txn % 16384) → getD (set highs (said s at .txn % 16384) new) (t % 16384) 0 < t → stateOf t (before s (at + lengthAt s at)) ≡ 0
+      above t (yes e) q =
+          let b : new < t = rw (e, getD-set-same highs (said s at .txn % 16384) new 0 (omega (arith, k .long))) at q in
+          state-keeps t (λ x. omega arith) ∙ k .above t (rw e (omega arith))
+      above t (no n) q =
+          state-keeps t (λ x. n (ap (λ (u : ℕ). u % 16384) (sym x))) ∙ k .above t (rw (getD-set-other highs (said s at .txn % 16384) (t % 16384) new 0 n) at q)
 
 -- what a hint tells
 module _ (s : List ℕ) (at t : ℕ) (hints : List ℕ) (k : Hints s at hints) where

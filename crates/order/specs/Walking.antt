@@ -9,13 +9,13 @@ use Rattle.wal.specs.Prefix.{Met, before, onward}
 use Rattle.rules.specs.Order.{count, isBegin, lastLsn}
 use Rattle.order.specs.State.{basicFrom}
 use Rattle.order.specs.Clash.{passed}
-use Rattle.order.specs.Hints.{Hints, Highest}
+use Rattle.order.specs.Hints.{Hints, Highs}
 
 -- no entry before `at` breaks a rule; the last LSN, the number of Begins and the states of transactions there
-pub record Walking (full : ℕ → Bool) (s hints : List ℕ) (at last high begins : ℕ) : Type 0 where
+pub record Walking (full : ℕ → Bool) (s hints highs : List ℕ) (at last begins : ℕ) : Type 0 where
   pub met : Met s at
   pub hinted : Hints s at hints
-  pub highest : Highest s at high
+  pub highest : Highs s at highs
   pub lastIs : last ≡ lastLsn (before s at)
   pub begun : begins ≡ count isBegin (before s at)
   pub few : begins ≤ at

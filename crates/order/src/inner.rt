@@ -12,7 +12,7 @@ ghost use Rattle.crc32c.specs.Tables.{Tables};
 ghost use Rattle.rules.specs.Order.{one};
 ghost use Rattle.rules.specs.Shape.{both, isKnown, isChanging, isImage, isKeyed, isShaped, same};
 ghost use Rattle.order.specs.State.{stateAfter, stateOf, mayFollow, basicFault};
-ghost use Rattle.order.specs.Hints.{Hints, Highest};
+ghost use Rattle.order.specs.Hints.{Hints, Highs, raised};
 ghost use Rattle.order.specs.First.{endNumber, fullOf, FirstWalk};
 use crate::Walked;
 use endian::Lsn;
@@ -56,17 +56,26 @@ pub fn look_back(log: &[u8], place: usize, t: u64) -> u64
 }
 
 // The state of transaction t before `at`.
-pub fn state_at(log: &[u8], at: usize, hints: &[u32; 16384], high: u64, t: u64) -> u64
+pub fn state_at(log: &[u8], at: usize, hints: &[u32; 16384], t: u64) -> u64
     requires { ⌜ Hints (now log) at (now hints) ⌝ }
-    requires { ⌜ Highest (now log) at high ⌝ }
     ensures { λ r. ⌜ r ≡ stateOf t (before (now (log .entry)) at) ⌝ }
 {
-    if high < t {
-        return 0;
-    }
     let r = (t % 16384) as usize;
     let p = hints[r] as usize;
     look_back(log, p, t)
+}
+
+// The same; 0 without looking back where t is above every number of its remainder that was met.
+fn state_before(log: &[u8], at: usize, hints: &[u32; 16384], highs: &[u64; 16384], t: u64) -> u64
+    requires { ⌜ Hints (now log) at (now hints) ⌝ }
+    requires { ⌜ Highs (now log) at (now highs) ⌝ }
+    ensures { λ r. ⌜ r ≡ stateOf t (before (now (log .entry)) at) ⌝ }
+{
+    let r = (t % 16384) as usize;
+    if highs[r] < t {
+        return 0;
+    }
+    state_at(log, at, hints, t)
 }
 
 // Notes that an entry of transaction t, which stands at `at`, ends at next.
@@ -79,6 +88,17 @@ pub fn mark(log: &[u8], at: usize, next: usize, t: u64, hints: &mut [u32; 16384]
 {
     let r = (t % 16384) as usize;
     hints[r] = next as u32;
+}
+
+// Notes that transaction t has an entry.
+fn raise(highs: &mut [u64; 16384], t: u64)
+    ensures { λ _. ⌜ now (highs .exit) ≡ raised t (now (highs .entry)) ⌝ }
+{
+    let r = (t % 16384) as usize;
+    if t <= highs[r] {
+        return;
+    }
+    highs[r] = t;
 }
 
 // Whether a type is known.
@@ -287,13 +307,20 @@ fn is_full(bounded: bool, records: u64, begins: u64) -> bool
 }
 
 // The fault of the entry at `at` by all rules but that on clashes, or 0.
-fn fault_at(log: &[u8], v: EntryView, hints: &[u32; 16384], last: u64, high: u64, full: bool) -> u64
+fn fault_at(
+    log: &[u8],
+    v: EntryView,
+    hints: &[u32; 16384],
+    highs: &[u64; 16384],
+    last: u64,
+    full: bool,
+) -> u64
     requires { ⌜ EntryAt (now log) (v .place) v ⌝ }
     requires { ⌜ Hints (now log) (v .place) (now hints) ⌝ }
-    requires { ⌜ Highest (now log) (v .place) high ⌝ }
+    requires { ⌜ Highs (now log) (v .place) (now highs) ⌝ }
     ensures { λ r. ⌜ r ≡ basicFault last (stateOf (v .txn .0) (before (now (log .entry)) (v .place))) full (entryOf (now (log .entry)) v) ⌝ }
 {
-    let state = state_at(log, v.place, hints, high, v.txn.0);
+    let state = state_before(log, v.place, hints, highs, v.txn.0);
     basic_fault(log, v, last, state, full)
 }
 
@@ -308,16 +335,6 @@ fn counted(begins: u64, kind: u8) -> u64
     begins
 }
 
-// A number that is not below either.
-pub fn larger(a: u64, b: u64) -> u64
-    ensures { λ r. ⌜ (a ≤ r) × (b ≤ r) ⌝ }
-{
-    if a < b {
-        return b;
-    }
-    a
-}
-
 // The first walk: checksums, and all rules but that on clashes.
 pub fn walk(t: &[u32; 2048], log: &[u8], bounded: bool, records: u64) -> Walked
     requires { ⌜ Tables (now t) ⌝ }
@@ -325,9 +342,9 @@ pub fn walk(t: &[u32; 2048], log: &[u8], bounded: bool, records: u64) -> Walked
     ensures { λ r. ⌜ FirstWalk (fullOf bounded records) (now (log .entry)) r ⌝ }
 {
     let mut hints = [32u32; 16384];
+    let mut highs = [0u64; 16384];
     let mut at = FIRST;
     let mut last: u64 = 0;
-    let mut high: u64 = 0;
     let mut begins: u64 = 0;
     loop {
         let found = entry_at(t, log, at);
@@ -340,7 +357,7 @@ pub fn walk(t: &[u32; 2048], log: &[u8], bounded: bool, records: u64) -> Walked
             };
         };
         let full = is_full(bounded, records, begins);
-        let number = fault_at(log, v, &hints, last, high, full);
+        let number = fault_at(log, v, &hints, &highs, last, full);
         if number != 0 {
             return Walked {
                 number: number,
@@ -350,8 +367,8 @@ pub fn walk(t: &[u32; 2048], log: &[u8], bounded: bool, records: u64) -> Walked
         }
         let next = at + v.length;
         mark(log, at, next, v.txn.0, &mut hints);
+        raise(&mut highs, v.txn.0);
         begins = counted(begins, v.kind);
-        high = larger(high, v.txn.0);
         last = v.lsn.0;
         at = next;
     }

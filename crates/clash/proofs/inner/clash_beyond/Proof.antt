@@ -3,16 +3,15 @@ use mathlib.Core.Path.{sym, ap, _∙_}
 use Rattle.wal.specs.Prefix.{Stands}
 use Rattle.wal.proofs.Prefix.{stands-at, view-kind, view-txn, view-length}
 use Rattle.clash.proofs.FirstLaws.{Sweeping, sweeping-first, none-found, sweeping-stands, one-found, sweeping-next}
-use borrow.Author.Needs.{needs}
 use native.Mathlib.Omega.{arith}
 use Rattle.clash.proofs.inner.clash_beyond.Statement.{statement}
 use Rattle.clash.proofs.inner.clash_beyond.Tie as tie
 
 abbrev Inv-loop : tie.InvT-loop
-Inv-loop log limit n hints₀ at₀ high₀ hints at high = Sweeping log hints limit n (2 ^ 64) at high
+Inv-loop log limit n hints₀ at₀ hints at = Sweeping log hints limit n (2 ^ 64) at
 
 abbrev μ-loop : tie.MeasureT-loop
-μ-loop log limit n hints₀ at₀ high₀ hints at high = limit - at
+μ-loop log limit n hints₀ at₀ hints at = limit - at
 
 -- the entry that was read
 stands : (f : tie.After-standing Inv-loop μ-loop) → Stands (f .before .before .before .before .args .log .now) (f .before .before .loop .at)
@@ -31,7 +30,7 @@ touch-beyond-requires c κs =
     let p = f .before .before .before .before .pre in
     let e = f .standing .ensures in (
       (view-kind _ _ e, view-txn _ _ e, p .1 .1 .at _ (k .met) (f .before .loop-test .taken)),
-      (k .met, (stands f, (record { at = λ q m l. p .1 .1 .at q m (omega (arith, k .upTo)) }, (k .hinted, k .highest)))),
+      (k .met, (stands f, (record { at = λ q m l. p .1 .1 .at q m (omega (arith, k .upTo)) }, k .hinted))),
     )
 
 returns : tie.Need-returns Inv-loop μ-loop
@@ -56,18 +55,18 @@ mark-requires c κs =
 
 loop-less : tie.Need-loop-less Inv-loop μ-loop
 loop-less c =
-    let f = c .before .before .before .before .before .before .before in
+    let f = c .before .before .before .before .before .before in
     let k = stands-at (stands f) in
     omega (arith, k .low, view-length _ _ (f .standing .ensures), f .before .loop-test .taken)
 
 loop-again : tie.Need-loop-again Inv-loop μ-loop
 loop-again c =
-    let f = c .before .before .before .before .before .before .before in
+    let f = c .before .before .before .before .before .before in
     let k = f .before .before .loop .inv in
     let e = f .standing .ensures in
-    let b = c .before .before .before .before in
-    sweeping-next k (f .before .before .before .before .pre .1 .0) (f .before .loop-test .taken) _ _ _ (sym (b .before .touch-beyond .ensures) ∙ b .if1 .left)
-    (ap (λ (x : ℕ). f .before .before .loop .at + x) (view-length _ _ e)) (c .before .mark .ensures) (c .larger .ensures .0) (omega (arith, c .larger .ensures .1, view-txn _ _ e))
+    let b = c .before .before .before in
+    sweeping-next k (f .before .before .before .before .pre .1 .0) (f .before .loop-test .taken) _ _ (sym (b .before .touch-beyond .ensures) ∙ b .if1 .left)
+    (ap (λ (x : ℕ). f .before .before .loop .at + x) (view-length _ _ e)) (c .mark .ensures)
 
 returns-2 : tie.Need-returns-2 Inv-loop μ-loop
 returns-2 c = none-found (c .before .loop .inv) (c .before .before .before .pre .1 .0) (omega arith)
@@ -75,4 +74,4 @@ returns-2 c = none-found (c .before .loop .inv) (c .before .before .before .pre 
 pub clash-beyond-spec : {M : Type 1} → statement M
 clash-beyond-spec =
     tie.close
-    (tie.spec Inv-loop μ-loop loop-holds standing-requires touch-beyond-requires returns add-next mark-requires (λ c κs. search needs) loop-less loop-again returns-2)
+    (tie.spec Inv-loop μ-loop loop-holds standing-requires touch-beyond-requires returns add-next mark-requires loop-less loop-again returns-2)

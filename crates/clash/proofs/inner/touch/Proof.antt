@@ -48,7 +48,7 @@ clashes-with-requires : tie.Need-clashes-with-requires
 clashes-with-requires c κs =
     let f = c .before .before in
     let p = f .before .before .before .before .pre in
-    ((p .1 .0 .0, own-change (p .1 .1 .1 .0) _ (f .before .cell-for .ensures) (f .if1 .left), c .txn-by .ensures ∙ tells f .is), (p .1 .1 .1 .1 .0, p .1 .1 .1 .1 .1))
+    ((p .1 .0 .0, own-change (p .1 .1 .1 .0) _ (f .before .cell-for .ensures) (f .if1 .left), c .txn-by .ensures ∙ tells f .is), p .1 .1 .1 .1)
 
 returns-2 : tie.Need-returns-2
 returns-2 c =

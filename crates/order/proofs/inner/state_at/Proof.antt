@@ -1,4 +1,4 @@
-use mathlib.Core.Path.{sym, _∙_}
+use mathlib.Core.Path.{_∙_}
 use borrow.Author.Needs.{needs}
 use native.Mathlib.Omega.{arith}
 use Rattle.wal.proofs.Prefix.{met-small}
@@ -6,20 +6,16 @@ use Rattle.order.proofs.HintLaws.{hint-met, hint-state}
 use Rattle.order.proofs.inner.state_at.Statement.{statement}
 use Rattle.order.proofs.inner.state_at.Tie as tie
 
-returns : tie.Need-returns
-returns c = sym (c .before .before .pre .1 .above _ (c .if1 .taken))
-
 cast-p : tie.Need-cast-p
 cast-p c =
-    let a = c .before .before .before in
-    omega (arith, met-small _ (hint-met _ _ (a .args .t) _ (a .pre .0)), a .good .0)
+    let a = c .before .before in
+    omega (arith, met-small _ (hint-met _ _ (a .args .t) _ (a .pre)), a .good .0)
 
 look-back-requires : tie.Need-look-back-requires
-look-back-requires c κs = hint-met _ _ _ _ (c .before .before .before .pre .0)
+look-back-requires c κs = hint-met _ _ _ _ (c .before .before .pre)
 
-returns-2 : tie.Need-returns-2
-returns-2 c = c .look-back .ensures ∙ hint-state _ _ _ _ (c .before .before .before .before .pre .0)
+returns : tie.Need-returns
+returns c = c .look-back .ensures ∙ hint-state _ _ _ _ (c .before .before .before .pre)
 
 pub state-at-spec : {M : Type 1} → statement M
-state-at-spec =
-    tie.close (tie.spec returns (λ c. search needs) (λ c. search needs) cast-p look-back-requires returns-2)
+state-at-spec = tie.close (tie.spec (λ c. search needs) (λ c. search needs) cast-p look-back-requires returns)
