@@ -116,6 +116,16 @@ module _ (s : List ℕ) (p t : ℕ) (h : Stands s p) (v : EntryView) (e : v ≡ 
   unfolding endingOf entryOf
   other-here o = rw (onward-next s h, of-other commit t (said s p) (rw (← e) (ne-eqb _ _ o)), of-other rollback t (said s p) (rw (← e) (ne-eqb _ _ o)))
 
+-- the outcome of a transaction whose ending stands at a place
+module _ {s : List ℕ} {p : ℕ} (t : ℕ) (o : Ordered s) (m : Met s p) (h : Stands s p) (e : t ≡ said s p .txn) (n : t ≡ 0 → ⊥) where
+  pub ending-commit : commit ≡ said s p .kind → outcomeOf (entries s) t ≡ 1
+  unfolding entryOf
+  ending-commit k = fate-is t o m h e n ∙ sym (commit-here s p t h (entryIn s p) refl (sym e) (sym k))
+
+  pub ending-rollback : rollback ≡ said s p .kind → outcomeOf (entries s) t ≡ 2
+  unfolding entryOf
+  ending-rollback k = fate-is t o m h e n ∙ sym (rollback-here s p t h (entryIn s p) refl (sym e) (sym k))
+
 pub ending-none : (t : ℕ) (s : List ℕ) (p : ℕ) → p ≡ endOf s → 0 ≡ endingOf t (onward s p)
 unfolding endingOf
 ending-none t s p e = rw (e, onward-end s)

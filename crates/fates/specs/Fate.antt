@@ -2,7 +2,7 @@
 use Prim.Native.Nat.{ℕ, _+_, _/_, _%_, _≤_, _<_}
 use mathlib.Core.Path.{_≡_}
 use mathlib.Core.List.{List, [], _∷_}
-use lib.ListN.{length, getD}
+use lib.ListN.{length, getD, set}
 use Rattle.endian.specs.Pick.{pick}
 use Rattle.endian.specs.Numbers.{numberAt}
 use Rattle.wal.specs.Entry.{Entry, commit, rollback}
@@ -31,3 +31,7 @@ answers = 16384
 
 pub record Memo (s m : List ℕ) : Type 0 where
   pub at : (r : ℕ) → r < answers → Kept s (getD m r 0)
+
+-- the answers after one more, on transaction t: two are kept for each remainder, the newer one in front
+unfoldable pub inFront : ℕ → ℕ → List ℕ → List ℕ
+inFront t v m = set (set m (t % 8192 + 8192) (getD m (t % 8192) 0)) (t % 8192) v

@@ -7,7 +7,7 @@ ghost use Rattle.endian.specs.Numbers.{numberAt};
 ghost use Rattle.wal.specs.Walk.{entries, endOf};
 ghost use Rattle.wal.specs.Prefix.{said, Stands, Met, onward};
 ghost use Rattle.rules.specs.Recover.{outcomeOf};
-ghost use Rattle.fates.specs.Fate.{Ordered, endingOf, Kept, Memo};
+ghost use Rattle.fates.specs.Fate.{Ordered, endingOf, Kept, Memo, inFront};
 use endian::inner::u64_at;
 use wal::inner::standing;
 
@@ -45,7 +45,16 @@ fn kept(log: &[u8], v: u32, t: u64) -> bool
     u64_at(log, (v / 4 + 12) as usize) == t
 }
 
-// The outcome of transaction t, of which an entry stands at place: 1 committed, 2 rolled back, 0 neither. The newest two answers on each remainder are kept.
+// Keeps the answer v on transaction t, before the one that was kept last on a number of the same remainder.
+fn keep(memo: &mut [u32; 16384], t: u64, v: u32)
+    ensures { λ _. ⌜ now (memo .exit) ≡ inFront t v (now (memo .entry)) ⌝ }
+{
+    let i = (t % 8192) as usize;
+    memo[i + 8192] = memo[i];
+    memo[i] = v;
+}
+
+// The outcome of transaction t, of which an entry stands at place: 1 committed, 2 rolled back, 0 neither. Two answers are kept for each remainder.
 pub fn fate(log: &[u8], place: usize, t: u64, end: usize, memo: &mut [u32; 16384]) -> u64
     requires { ⌜ Met (now log) place ⌝ }
     requires { ⌜ Stands (now log) place ⌝ }
@@ -62,31 +71,31 @@ pub fn fate(log: &[u8], place: usize, t: u64, end: usize, memo: &mut [u32; 16384
     }
     let w = memo[i + 8192];
     if kept(log, w, t) {
+        keep(memo, t, w);
         return (w % 4) as u64;
     }
     let r = look(log, place, end, t);
-    memo[i + 8192] = v;
-    memo[i] = (4 * place + r as usize) as u32;
+    keep(memo, t, (4 * place + r as usize) as u32);
     r
 }
 
-// Keeps the outcome of a transaction where its ending stands at place. A walk backward meets it there before the transaction's changes, and need not look for it.
-pub fn recall(log: &[u8], place: usize, kind: u8, t: u64, end: usize, memo: &mut [u32; 16384])
+// Keeps the outcome of transaction t where its ending, an entry of this type, stands at place. A walk backward meets it before the changes of t, and need not look for it.
+pub fn recall(log: &[u8], place: usize, kind: u8, t: u64, memo: &mut [u32; 16384])
     requires { ⌜ Met (now log) place ⌝ }
     requires { ⌜ Stands (now log) place ⌝ }
     requires { ⌜ Ordered (now log) ⌝ }
     requires { ⌜ Memo (now log) (now memo) ⌝ }
-    requires { ⌜ (endOf (now log) ≡ end) × (t ≡ said (now log) place .txn) × (length (now log) ≤ 16777216) ⌝ }
+    requires { ⌜ (kind ≡ said (now log) place .kind) × (t ≡ said (now log) place .txn) × (length (now log) ≤ 16777216) ⌝ }
     ensures { λ _. ⌜ Memo (now (log .entry)) (now (memo .exit)) ⌝ }
 {
-    if kind < 2 {
-        return;
-    }
-    if 3 < kind {
-        return;
-    }
     if t == 0 {
         return;
     }
-    fate(log, place, t, end, memo);
+    if kind == 2 {
+        keep(memo, t, (4 * place + 1) as u32);
+        return;
+    }
+    if kind == 3 {
+        keep(memo, t, (4 * place + 2) as u32);
+    }
 }
