@@ -28,17 +28,6 @@ struct Times {
     copy: f64,
 }
 
-/// Seconds of the best run; each run gets what `prepare` gives, which is not timed.
-fn best<T>(mut prepare: impl FnMut() -> T, mut run: impl FnMut(&mut T)) -> f64 {
-    let times = (0..RUNS).map(|_| {
-        let mut prepared = prepare();
-        let start = Instant::now();
-        run(black_box(&mut prepared));
-        start.elapsed().as_secs_f64()
-    });
-    times.fold(f64::INFINITY, f64::min)
-}
-
 fn by_library(input: &Input, pages: &mut [u8], table: &mut [u64]) -> Answer {
     library::recover(MAGIC, 0, pages, &input.log, table)
 }
@@ -69,36 +58,79 @@ fn check(input: &Input) -> Answer {
     answer
 }
 
-fn measure(workload: &Workload, size: Size) -> Times {
-    let input = workload.input(size);
-    let answer = check(&input);
-    println!(
-        "({}) at {} size: {} entries in {} log bytes, {} transactions, {} pages rewritten",
-        workload.name,
-        size.name,
-        answer.last_lsn,
-        input.log.len(),
-        input.records,
-        answer.pages_rewritten
-    );
-    let bytes = [&input.pages[..], &input.log[..]].concat();
-    let mut copy = vec![0; bytes.len()];
-    Times {
-        library: best(
-            || (input.pages.clone(), vec![0; input.records * RECORD_NUMBERS]),
-            |(pages, table)| assert_eq!(by_library(&input, pages, table).number, 0),
-        ),
-        oracle: best(
-            || (input.pages.clone(), vec![Record::default(); input.records]),
-            |(pages, table)| assert_eq!(by_oracle(&input, pages, table).number, 0),
-        ),
-        copy: best(
-            || (),
-            |()| {
-                black_box(copy_and_sum(black_box(&bytes), &mut copy));
-            },
-        ),
+/// Seconds that a call takes.
+fn seconds<T>(call: impl FnOnce() -> T) -> f64 {
+    let start = Instant::now();
+    black_box(call());
+    start.elapsed().as_secs_f64()
+}
+
+/// What one workload is measured on at one size: made once, and filled anew before each run.
+struct Bench {
+    input: Input,
+    bytes: Vec<u8>,
+    pages: Vec<u8>,
+    table: Vec<u64>,
+    records: Vec<Record>,
+    copy: Vec<u8>,
+}
+
+impl Bench {
+    fn new(workload: &Workload, size: Size) -> Bench {
+        let input = workload.input(size);
+        let answer = check(&input);
+        println!(
+            "({}) at {} size: {} entries in {} log bytes, {} transactions, {} pages rewritten",
+            workload.name,
+            size.name,
+            answer.last_lsn,
+            input.log.len(),
+            input.records,
+            answer.pages_rewritten
+        );
+        let bytes = [&input.pages[..], &input.log[..]].concat();
+        Bench {
+            pages: input.pages.clone(),
+            table: vec![0; input.records * RECORD_NUMBERS],
+            records: vec![Record::default(); input.records],
+            copy: vec![0; bytes.len()],
+            bytes,
+            input,
+        }
     }
+
+    /// One run of each.
+    fn run(&mut self) -> Times {
+        self.pages.copy_from_slice(&self.input.pages);
+        let library = seconds(|| by_library(&self.input, &mut self.pages, &mut self.table));
+        self.pages.copy_from_slice(&self.input.pages);
+        let oracle = seconds(|| by_oracle(&self.input, &mut self.pages, &mut self.records));
+        let copy = seconds(|| copy_and_sum(black_box(&self.bytes), &mut self.copy));
+        Times {
+            library,
+            oracle,
+            copy,
+        }
+    }
+}
+
+/// The best times of a workload at each size. The sizes take turns, so that a slow spell of the machine falls on all of
+/// them.
+fn measure(workload: &Workload) -> Vec<Times> {
+    let mut benches: Vec<Bench> = SIZES
+        .iter()
+        .map(|&size| Bench::new(workload, size))
+        .collect();
+    let mut best: Vec<Times> = benches.iter_mut().map(Bench::run).collect();
+    for _ in 1..RUNS {
+        for (best, bench) in best.iter_mut().zip(&mut benches) {
+            let times = bench.run();
+            best.library = best.library.min(times.library);
+            best.oracle = best.oracle.min(times.oracle);
+            best.copy = best.copy.min(times.copy);
+        }
+    }
+    best
 }
 
 fn milliseconds(seconds: f64) -> String {
@@ -110,7 +142,11 @@ fn beside(seconds: f64, library: f64) -> String {
     format!("{} ({:.2})", milliseconds(seconds), library / seconds)
 }
 
-fn print_times(size: Size, times: &[Times], sqlite: &Result<Sqlite, String>) {
+fn print_times<'a>(
+    size: Size,
+    times: impl Iterator<Item = &'a Times>,
+    sqlite: &Result<Sqlite, String>,
+) {
     println!(
         "\n{} size: {} pages of 80 rows, a log of {} bytes, {:.1} MB in all; milliseconds (library's time as a multiple)",
         size.name,
@@ -144,10 +180,38 @@ fn print_times(size: Size, times: &[Times], sqlite: &Result<Sqlite, String>) {
     }
 }
 
-/// How many times as fast as the bytes the time grows from a smaller size to a larger one.
-fn growth(larger: (Size, &Times), smaller: (Size, &Times)) -> f64 {
-    let bytes = larger.0.bytes() as f64 / smaller.0.bytes() as f64;
-    larger.1.library / smaller.1.library / bytes
+/// How many times as fast as the bytes a time grows from a smaller size to a larger one.
+fn growth((large, of_large): (Size, f64), (small, of_small): (Size, f64)) -> f64 {
+    of_large / of_small / (large.bytes() as f64 / small.bytes() as f64)
+}
+
+/// Prints how times grow, and gives back the largest figure of the library.
+fn print_growth(measured: &[Vec<Times>]) -> f64 {
+    let [full, half, quarter] = SIZES;
+    println!(
+        "\nGrowth: time from a size to the next, in terms of the bytes (that of copy and crc32)"
+    );
+    println!("{:<36}{:>20}{:>20}", "", "quarter to half", "half to full");
+    let mut worst: f64 = 0.0;
+    for (workload, times) in WORKLOADS.iter().zip(measured) {
+        let step = |large: Size, at: usize, small: Size| {
+            let of = |of: fn(&Times) -> f64| {
+                growth((large, of(&times[at])), (small, of(&times[at + 1])))
+            };
+            (of(|it| it.library), of(|it| it.copy))
+        };
+        let (to_half, to_full) = (step(half, 1, quarter), step(full, 0, half));
+        let shown = |(library, copy): (f64, f64)| format!("{library:.2} ({copy:.2})");
+        println!(
+            "({}) {:<32}{:>20}{:>20}",
+            workload.name,
+            workload.about,
+            shown(to_half),
+            shown(to_full)
+        );
+        worst = worst.max(to_half.0).max(to_full.0);
+    }
+    worst
 }
 
 fn goal(name: &str, found: f64, most: f64) {
@@ -160,34 +224,16 @@ fn main() {
     if !has_instruction() {
         println!("This machine has no crc32 instruction: a table stands in for it.");
     }
-    let mut measured = Vec::new();
-    for size in SIZES {
-        let times: Vec<Times> = WORKLOADS.iter().map(|it| measure(it, size)).collect();
-        measured.push((size, times, sqlite(size)));
+    let measured: Vec<Vec<Times>> = WORKLOADS.iter().map(measure).collect();
+    let beside: Vec<Result<Sqlite, String>> = SIZES.into_iter().map(sqlite).collect();
+    for (at, (size, sqlite)) in SIZES.into_iter().zip(&beside).enumerate() {
+        print_times(size, measured.iter().map(|times| &times[at]), sqlite);
     }
-    for (size, times, sqlite) in &measured {
-        print_times(*size, times, sqlite);
-    }
-
-    println!("\nGrowth: time from a size to the next, in terms of the bytes");
-    println!("{:<36}{:>20}{:>20}", "", "quarter to half", "half to full");
-    let [full, half, quarter] = &measured[..] else {
-        unreachable!("three sizes");
-    };
-    let mut worst: f64 = 0.0;
-    for (at, workload) in WORKLOADS.iter().enumerate() {
-        let to_half = growth((half.0, &half.1[at]), (quarter.0, &quarter.1[at]));
-        let to_full = growth((full.0, &full.1[at]), (half.0, &half.1[at]));
-        println!(
-            "({}) {:<32}{to_half:>20.2}{to_full:>20.2}",
-            workload.name, workload.about
-        );
-        worst = worst.max(to_half).max(to_full);
-    }
+    let worst = print_growth(&measured);
 
     println!("\nGoals, at full size");
-    let few = &full.1[0];
-    match &full.2 {
+    let few = &measured[0][0];
+    match &beside[0] {
         Ok(sqlite) => goal("(a) in terms of SQLite", few.library / sqlite.seconds, 1.0),
         Err(_) => println!("unknown  (a) in terms of SQLite"),
     }
@@ -196,9 +242,9 @@ fn main() {
         few.library / few.copy,
         MOST_OF_COPY,
     );
-    for (workload, times) in WORKLOADS.iter().zip(&full.1).skip(1) {
+    for (workload, times) in WORKLOADS.iter().zip(&measured).skip(1) {
         let name = format!("({}) in terms of (a)", workload.name);
-        goal(&name, times.library / few.library, MOST_OF_A);
+        goal(&name, times[0].library / few.library, MOST_OF_A);
     }
     goal(
         "growth of time in terms of bytes, all workloads",

@@ -1,5 +1,7 @@
 //! The pages and logs that recovery is measured on. Each log is an honest history of pages that were never flushed.
 
+use std::collections::HashSet;
+
 use generate::{live_tuple, log_header, DataPage, Entry, Rng, Slots, BEGIN, COMMIT, ROLLBACK};
 use library::{LOG_LIMIT_BYTES, PAGE_BYTES, PAGE_LIMIT};
 
@@ -19,7 +21,7 @@ const FEW_PAGES: usize = 300;
 /// Changes of a short transaction.
 const SHORT_CHANGES: usize = 10;
 
-/// Transactions that (e) has open at a time.
+/// Transactions that (e) and (g) have open at a time.
 const OPEN: u64 = 2_000;
 
 /// What part of the largest size a workload has.
@@ -65,7 +67,7 @@ pub struct Workload {
     build: fn(&mut Writer),
 }
 
-pub const WORKLOADS: [Workload; 5] = [
+pub const WORKLOADS: [Workload; 7] = [
     Workload {
         name: "a",
         about: "few pages touched, 300 at full",
@@ -90,6 +92,16 @@ pub const WORKLOADS: [Workload; 5] = [
         name: "e",
         about: "43-byte entries, 2,000 open",
         build: bare,
+    },
+    Workload {
+        name: "f",
+        about: "one change a transaction",
+        build: single_changes,
+    },
+    Workload {
+        name: "g",
+        about: "ten changes, 2,000 open",
+        build: many_open,
     },
 ];
 
@@ -190,13 +202,19 @@ impl Writer {
         (page as u64, slot)
     }
 
-    /// Short transactions one after the other: of twenty, one rolls back. The last never ends.
-    fn short_ones(&mut self, pages: usize, rows: u16, mut between: impl FnMut(&mut Writer)) {
+    /// Short transactions with so many changes one after the other: of twenty, one rolls back. The last never ends.
+    fn short_ones(
+        &mut self,
+        changes: usize,
+        pages: usize,
+        rows: u16,
+        mut between: impl FnMut(&mut Writer),
+    ) {
         let mut number = 1;
-        while self.has_room(SHORT_CHANGES * CHANGE_BYTES + 6 * CHANGE_BYTES) {
+        while self.has_room(changes * CHANGE_BYTES + 6 * CHANGE_BYTES) {
             number += 1;
             self.bare(number, BEGIN);
-            let changed: Vec<(u64, u16)> = (0..SHORT_CHANGES)
+            let changed: Vec<(u64, u16)> = (0..changes)
                 .map(|_| {
                     let (page, slot) = self.any_row(pages, rows);
                     self.update(number, page, slot);
@@ -224,12 +242,17 @@ impl Writer {
 
 fn few_pages(writer: &mut Writer) {
     let pages = FEW_PAGES / writer.size.part;
-    writer.short_ones(pages, ROWS, |_| ());
+    writer.short_ones(SHORT_CHANGES, pages, ROWS, |_| ());
 }
 
 fn all_pages(writer: &mut Writer) {
     let pages = writer.size.pages();
-    writer.short_ones(pages, ROWS, |_| ());
+    writer.short_ones(SHORT_CHANGES, pages, ROWS, |_| ());
+}
+
+fn single_changes(writer: &mut Writer) {
+    let pages = writer.size.pages();
+    writer.short_ones(1, pages, ROWS, |_| ());
 }
 
 /// Transaction 1 has the last row of each page to itself, begins first and never ends.
@@ -237,7 +260,7 @@ fn never_ending(writer: &mut Writer) {
     let pages = writer.size.pages();
     writer.bare(1, BEGIN);
     let mut page = 0;
-    writer.short_ones(pages, ROWS - 2, |writer| {
+    writer.short_ones(SHORT_CHANGES, pages, ROWS - 2, |writer| {
         writer.update(1, page, ROWS - 2);
         page = (page + 1) % pages as u64;
     });
@@ -270,6 +293,40 @@ fn bare(writer: &mut Writer) {
             let ending = number - OPEN;
             let kind = if ending % 7 == 0 { ROLLBACK } else { COMMIT };
             writer.bare(ending, kind);
+        }
+    }
+}
+
+/// So many transactions open at a time that take turns, a change each; one that has its changes commits, and the next
+/// begins. A row that another one holds is left alone.
+fn many_open(writer: &mut Writer) {
+    let pages = writer.size.pages();
+    let mut open: Vec<(u64, Vec<(u64, u16)>)> = Vec::new();
+    let mut held = HashSet::new();
+    let mut number = 0;
+    let mut turn = 0;
+    while writer.has_room(CHANGE_BYTES + 2 * BARE_BYTES) {
+        if open.len() < OPEN as usize {
+            number += 1;
+            writer.bare(number, BEGIN);
+            open.push((number, Vec::new()));
+            continue;
+        }
+        turn = (turn + 1) % open.len();
+        let (transaction, rows) = &mut open[turn];
+        let (page, slot) = writer.any_row(pages, ROWS);
+        if held.insert((page, slot)) {
+            writer.update(*transaction, page, slot);
+            rows.push((page, slot));
+        }
+        if rows.len() == SHORT_CHANGES {
+            writer.bare(*transaction, COMMIT);
+            for row in rows.drain(..) {
+                held.remove(&row);
+            }
+            number += 1;
+            writer.bare(number, BEGIN);
+            *transaction = number;
         }
     }
 }
