@@ -4,6 +4,7 @@ use mathlib.Core.Path.{_≡_}
 use mathlib.Core.Bool.{Bool}
 use mathlib.Core.List.{List}
 use lib.Dec.{ltb}
+use Rattle.refusals.specs.Refusal.{pageNotGood, pageLsn}
 use Rattle.endian.specs.Pick.{pick}
 use Rattle.wal.specs.Walk.{entries, endOf}
 use Rattle.page.specs.Layout.{pageAt, lsnOf}
@@ -28,17 +29,17 @@ pub record Judged (full : ℕ → Bool) (s : List ℕ) (n : ℕ) (starts lasts :
 -- refusal 11 by a fault, or what comes after it
 abbrev pub elevenOr : Fault → ℕ → ℕ
 elevenOr Sound later = later
-elevenOr MagicOrType later = 11
-elevenOr Id later = 11
-elevenOr Checksum later = 11
-elevenOr Count later = 11
-elevenOr FreeStart later = 11
-elevenOr FreeEnd later = 11
-elevenOr (Slot k) later = 11
+elevenOr MagicOrType later = pageNotGood
+elevenOr Id later = pageNotGood
+elevenOr Checksum later = pageNotGood
+elevenOr Count later = pageNotGood
+elevenOr FreeStart later = pageNotGood
+elevenOr FreeEnd later = pageNotGood
+elevenOr (Slot k) later = pageNotGood
 
 -- refusal 11 or 12 of page p at index i, or 0; `known` is the larger of the floor and the last LSN
 unfoldable pub pageNumber : ℕ → ℕ → ℕ → List ℕ → ℕ
-pageNumber magic known i p = elevenOr (faultOf magic i p) (pick (ltb known (lsnOf p)) 12 0)
+pageNumber magic known i p = elevenOr (faultOf magic i p) (pick (ltb known (lsnOf p)) pageLsn 0)
 
 -- the same of the n pages from i on
 unfoldable pub pagesBy : ℕ → ℕ → List ℕ → ℕ → ℕ → Verdict

@@ -4,6 +4,7 @@ ghost use mathlib.Core.Bool.{true};
 ghost use Prim.Native.Nat.{_+_, _≤_, max};
 ghost use lib.ListN.{length};
 ghost use lib.Dec.{ltb};
+ghost use Rattle.refusals.specs.Refusal.{noDataPage};
 ghost use Rattle.crc32c.specs.Tables.{Tables};
 ghost use Rattle.endian.specs.Pick.{pick};
 ghost use Rattle.wal.specs.Read.{first};
@@ -30,6 +31,9 @@ use page::PAGE_BYTES;
 use page::Verdict;
 use page::inner::fault;
 use page::inner::lsn;
+use refusals::CLASH;
+use refusals::PAGE_LSN;
+use refusals::PAGE_NOT_GOOD;
 use wal::FIRST;
 use wal::header_fault;
 use wal::inner::standing;
@@ -62,7 +66,7 @@ pub fn judge_log(
     let at = clash(log, w.place, n, beyond, starts, cells);
     if at < w.place {
         return Walked {
-            number: 9,
+            number: CLASH,
             place: at,
             last: Lsn(0),
         };
@@ -78,10 +82,10 @@ fn page_number(t: &[u32; 2048], magic: u64, known: u64, index: usize, page: &[u8
 {
     let f = fault(t, magic, PageNumber(index as u64), page);
     let Fault::Sound = f else {
-        return 11;
+        return PAGE_NOT_GOOD;
     };
     if known < lsn(page).0 {
-        return 12;
+        return PAGE_LSN;
     }
     0
 }
@@ -151,7 +155,7 @@ fn is_stray(log: &[u8], at: usize, kind: u8, pages: &[u8], n: usize) -> bool
 pub fn stray(log: &[u8], end: usize, pages: &[u8], n: usize) -> usize
     requires { ⌜ (endOf (now log) ≡ end) × (n ≡ pagesIn (now pages)) ⌝ }
     requires { ⌜ Sound (now log) end ⌝ }
-    ensures { λ r. ⌜ strayFrom (now (pages .entry)) (entries (now (log .entry))) first ≡ pick (ltb r end) (verdict 13 r) accepted ⌝ }
+    ensures { λ r. ⌜ strayFrom (now (pages .entry)) (entries (now (log .entry))) first ≡ pick (ltb r end) (verdict noDataPage r) accepted ⌝ }
 {
     let mut at = FIRST;
     while at < end {

@@ -3,6 +3,7 @@ use Prim.Native.Nat.{ℕ, zero, suc, _+_}
 use mathlib.Core.List.{List, [], _∷_, _++_}
 use mathlib.Core.Bool.{Bool, true, false, not}
 use lib.Dec.{eqb}
+use Rattle.refusals.specs.Refusal.{clash}
 use Rattle.endian.specs.Pick.{pick}
 use Rattle.wal.specs.Entry.{Entry, sizeOf}
 use Rattle.page.specs.Fault.{verdict, accepted}
@@ -25,7 +26,7 @@ clashAfter es e = both (not (eqb (newestBy e es) 0)) (both (not (eqb (newestBy e
 -- the first clash among entries, the first of which stands at a place, after the entries es
 unfoldable pub clashFrom : List Entry → List Entry → ℕ → Verdict
 clashFrom es [] at = accepted
-clashFrom es (f ∷ fs) at = pick (clashAfter es f) (verdict 9 at) (clashFrom (es ++ (f ∷ [])) fs (at + sizeOf f))
+clashFrom es (f ∷ fs) at = pick (clashAfter es f) (verdict clash at) (clashFrom (es ++ (f ∷ [])) fs (at + sizeOf f))
 
 -- the entries before the first that breaks another rule than that on clashes, after the entries es
 unfoldable pub passed : (ℕ → Bool) → List Entry → List Entry → List Entry

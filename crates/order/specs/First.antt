@@ -4,6 +4,7 @@ use mathlib.Core.Path.{_≡_}
 use mathlib.Core.List.{List, []}
 use mathlib.Core.Bool.{Bool}
 use lib.Dec.{leb, eqb}
+use Rattle.refusals.specs.Refusal.{entryDamaged}
 use Rattle.endian.specs.Pick.{pick}
 use Rattle.wal.specs.Read.{first}
 use Rattle.wal.specs.Walk.{entries, endOf, endingOf}
@@ -31,7 +32,7 @@ abbrev pub endNumber : Reading → ℕ
 endNumber (Whole v) = 0
 endNumber End = 0
 endNumber Torn = 0
-endNumber Damage = 4
+endNumber Damage = entryDamaged
 
 -- what the first walk finds: where it stops, the last LSN before that place, and the fault there, if any
 pub record FirstWalk (full : ℕ → Bool) (s : List ℕ) (w : Walked) : Type 0 where

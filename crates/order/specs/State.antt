@@ -3,6 +3,7 @@ use Prim.Native.Nat.{ℕ, zero, suc, _+_}
 use mathlib.Core.List.{List, [], _∷_, _++_}
 use mathlib.Core.Bool.{Bool, true, false}
 use lib.Dec.{ltb, eqb}
+use Rattle.refusals.specs.Refusal.{entryType, entryShape, lsnOrder, transactionOrder, noRecord}
 use Rattle.endian.specs.Pick.{pick}
 use Rattle.wal.specs.Entry.{Entry, sizeOf, begin, commit, rollback, checkpoint}
 use Rattle.page.specs.Fault.{accepted}
@@ -39,11 +40,11 @@ basicFault last s full e =
     (pick (isShaped e)
     (pick (ltb last (e .lsn))
     (pick (ordered s e)
-    (pick (both (isBegin e) full) 10 0)
-    8)
-    7)
-    6)
-    5
+    (pick (both (isBegin e) full) noRecord 0)
+    transactionOrder)
+    lsnOrder)
+    entryShape)
+    entryType
 
 -- the same of an entry after those before it
 unfoldable pub basicAfter : (ℕ → Bool) → List Entry → Entry → ℕ

@@ -18,6 +18,12 @@ use crate::Walked;
 use endian::Lsn;
 use endian::inner::u16_at;
 use endian::inner::u64_at;
+use refusals::ENTRY_DAMAGED;
+use refusals::ENTRY_SHAPE;
+use refusals::ENTRY_TYPE;
+use refusals::LSN_ORDER;
+use refusals::NO_RECORD;
+use refusals::TRANSACTION_ORDER;
 use wal::EntryView;
 use wal::FIRST;
 use wal::Reading;
@@ -266,22 +272,22 @@ fn basic_fault(log: &[u8], v: EntryView, last: u64, state: u64, full: bool) -> u
     ensures { λ r. ⌜ r ≡ basicFault last state full (entryOf (now (log .entry)) v) ⌝ }
 {
     if !known(v.kind) {
-        return 5;
+        return ENTRY_TYPE;
     }
     if !shaped(log, v) {
-        return 6;
+        return ENTRY_SHAPE;
     }
     if v.lsn.0 <= last {
-        return 7;
+        return LSN_ORDER;
     }
     if !may_follow(state, v.kind, v.txn.0) {
-        return 8;
+        return TRANSACTION_ORDER;
     }
     if v.kind != 1 {
         return 0;
     }
     if full {
-        return 10;
+        return NO_RECORD;
     }
     0
 }
@@ -293,7 +299,7 @@ fn end_number(found: Reading) -> u64
     let Reading::Damage = found else {
         return 0;
     };
-    4
+    ENTRY_DAMAGED
 }
 
 // Whether no record is left after so many.

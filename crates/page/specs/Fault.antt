@@ -4,6 +4,7 @@ use mathlib.Core.List.{List}
 use mathlib.Core.Bool.{Bool, true, false}
 use lib.ListN.{length}
 use lib.Dec.{ltb, leb, eqb}
+use Rattle.refusals.specs.Refusal.{pageArea, pageNotGood}
 use Rattle.endian.specs.Pick.{pick}
 use Rattle.endian.specs.Numbers.{part}
 use Rattle.crc32c.specs.Crc.{crc32c}
@@ -80,13 +81,13 @@ accepted = verdict 0 0
 -- the refusal that a fault of the page at an index is, or what comes after it
 abbrev pub judged : Fault → ℕ → Verdict → Verdict
 judged Sound i later = later
-judged MagicOrType i later = verdict 11 i
-judged Id i later = verdict 11 i
-judged Checksum i later = verdict 11 i
-judged Count i later = verdict 11 i
-judged FreeStart i later = verdict 11 i
-judged FreeEnd i later = verdict 11 i
-judged (Slot k) i later = verdict 11 i
+judged MagicOrType i later = verdict pageNotGood i
+judged Id i later = verdict pageNotGood i
+judged Checksum i later = verdict pageNotGood i
+judged Count i later = verdict pageNotGood i
+judged FreeStart i later = verdict pageNotGood i
+judged FreeEnd i later = verdict pageNotGood i
+judged (Slot k) i later = verdict pageNotGood i
 
 -- the first of the n pages from i on that is not good
 unfoldable pub firstBad : ℕ → List ℕ → ℕ → ℕ → Verdict
@@ -98,4 +99,4 @@ unfoldable pub sizeWrong : List ℕ → Bool
 sizeWrong s = pick (eqb (length s % pageBytes) 0) (ltb pageLimit (pagesIn s)) true
 
 unfoldable pub verdictOf : ℕ → List ℕ → Verdict
-verdictOf magic s = pick (sizeWrong s) (verdict 1 0) (firstBad magic s (pagesIn s) 0)
+verdictOf magic s = pick (sizeWrong s) (verdict pageArea 0) (firstBad magic s (pagesIn s) 0)

@@ -3,9 +3,10 @@ use Prim.Native.Nat.{ℕ, zero, suc, _+_, _*_, _/_}
 use mathlib.Core.List.{List, [], _∷_, _++_}
 use lib.ListN.{length, drop}
 use lib.Dec.{ltb, eqb}
+use Rattle.refusals.specs.Refusal.{mapShort}
 use Rattle.endian.specs.Pick.{pick}
 use Rattle.page.specs.Layout.{freeType, pagesIn, pageAt, typeOf}
-use Rattle.page.specs.Fault.{verdict, verdictOf}
+use Rattle.page.specs.Fault.{verdict, accepted, verdictOf}
 use Rattle.page.specs.declared.Verdict.{Verdict}
 
 -- 1 where page i is lent and has type 4, else 0
@@ -35,7 +36,7 @@ freePages s (suc n) i = freeBit s i + freePages s n (suc i)
 unfoldable pub mapVerdict : ℕ → List ℕ → List ℕ → Verdict
 mapVerdict magic s map =
     pick (eqb (verdictOf magic s .number) 0)
-    (pick (ltb (length map) (mapLength s)) (verdict 16 0) (verdict 0 0))
+    (pick (ltb (length map) (mapLength s)) (verdict mapShort 0) accepted)
     (verdictOf magic s)
 
 -- what the lent map then holds: the needed bytes and its later ones as they were; refused, all as lent

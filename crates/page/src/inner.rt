@@ -34,6 +34,8 @@ use endian::inner::put_u16;
 use endian::inner::u16_at;
 use endian::inner::u32_at;
 use endian::inner::u64_at;
+use refusals::PAGE_AREA;
+use refusals::PAGE_NOT_GOOD;
 
 // Where in a page the offset and the length of slot 0 stand; a slot has four bytes.
 const OFFSETS_AT: usize = HEAD_BYTES;
@@ -161,7 +163,7 @@ fn first_bad(t: &[u32; 2048], magic: u64, pages: &[u8], count: usize) -> Verdict
         let f = fault(t, magic, PageNumber(i as u64), &pages[a..e]);
         let Fault::Sound = f else {
             return Verdict {
-                number: 11,
+                number: PAGE_NOT_GOOD,
                 place: i as u64,
             };
         };
@@ -181,13 +183,13 @@ pub fn verify(t: &[u32; 2048], magic: u64, pages: &[u8]) -> Verdict
     let count = pages.len() / PAGE_BYTES;
     if pages.len() % PAGE_BYTES != 0 {
         return Verdict {
-            number: 1,
+            number: PAGE_AREA,
             place: 0,
         };
     }
     if PAGE_LIMIT < count {
         return Verdict {
-            number: 1,
+            number: PAGE_AREA,
             place: 0,
         };
     }

@@ -5,6 +5,7 @@ ghost use Rattle.page.specs.Rows.{nextRow};
 ghost use Rattle.page.specs.FreeMap.{mapVerdict, freeCount, mapAfter};
 use endian::Lsn;
 use endian::PageNumber;
+use refusals::MAP_SHORT;
 
 mod faults;
 pub mod inner;
@@ -121,7 +122,7 @@ pub fn free_map(magic: u64, pages: &[u8], map: &mut [u8]) -> FreeMap
     if map.len() < need {
         return FreeMap {
             verdict: Verdict {
-                number: 16,
+                number: MAP_SHORT,
                 place: 0,
             },
             free: 0,

@@ -12,6 +12,9 @@ use endian::Lsn;
 use order::Walked;
 use page::PAGE_BYTES;
 use page::PAGE_LIMIT;
+use refusals::NO_DATA_PAGE;
+use refusals::PAGE_AREA;
+use refusals::PAGE_OVERFULL;
 use room::inner::tight;
 
 // Whether page bytes are no multiple of a page's, or too many pages.
@@ -54,7 +57,7 @@ pub fn judge(
     ensures { λ _. ⌜ Memo (now (log .entry)) (now (memo .exit)) ⌝ }
 {
     if size_wrong(pages) {
-        return refusal(1, 0);
+        return refusal(PAGE_AREA, 0);
     }
     let n = pages.len() / PAGE_BYTES;
     let w = judge_log(t, log, n, bounded, records, starts, lasts, cells);
@@ -67,11 +70,11 @@ pub fn judge(
     }
     let at = stray(log, w.place, pages, n);
     if at < w.place {
-        return refusal(13, at);
+        return refusal(NO_DATA_PAGE, at);
     }
     let i = tight(log, w.place, pages, n, starts, cells, memo);
     if i < n {
-        return refusal(14, i);
+        return refusal(PAGE_OVERFULL, i);
     }
     w
 }

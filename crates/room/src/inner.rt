@@ -3,6 +3,7 @@ ghost use mathlib.Core.Path.{_≡_};
 ghost use Prim.Native.Nat.{_+_, _-_, _≤_, _<_};
 ghost use lib.ListN.{length};
 ghost use lib.Dec.{ltb};
+ghost use Rattle.refusals.specs.Refusal.{pageOverfull};
 ghost use Rattle.endian.specs.Pick.{pick};
 ghost use Rattle.wal.specs.Walk.{entries, endOf};
 ghost use Rattle.page.specs.Layout.{pagesIn};
@@ -84,7 +85,7 @@ fn tight_in(
     requires { ⌜ Cells (entries (now log)) lo hi (Decided (now log)) (now cells) ⌝ }
     requires { ⌜ Touched (now log) (now pages) lo hi ⌝ }
     requires { ⌜ (n ≡ pagesIn (now pages)) × (n ≤ 4096) × (lo < hi) × (hi ≤ n) × (startOf (entries (now log)) hi - startOf (entries (now log)) lo ≤ 131072) ⌝ }
-    ensures { λ r. ⌜ (lo ≤ r) × (r ≤ hi) × (tightFrom (entries (now (log .entry))) (now (pages .entry)) (n - lo) lo ≡ pick (ltb r hi) (verdict 14 r) (tightFrom (entries (now (log .entry))) (now (pages .entry)) (n - hi) hi)) ⌝ }
+    ensures { λ r. ⌜ (lo ≤ r) × (r ≤ hi) × (tightFrom (entries (now (log .entry))) (now (pages .entry)) (n - lo) lo ≡ pick (ltb r hi) (verdict pageOverfull r) (tightFrom (entries (now (log .entry))) (now (pages .entry)) (n - hi) hi)) ⌝ }
 {
     let mut i = lo;
     while i < hi {
@@ -111,7 +112,7 @@ pub fn tight(
     requires { ⌜ Starts (entries (now log)) n (now starts) ⌝ }
     requires { ⌜ Touched (now log) (now pages) 0 n ⌝ }
     requires { ⌜ (endOf (now log) ≡ end) × (length (now log) ≤ 16777216) × (n ≡ pagesIn (now pages)) × (n ≤ 4096) ⌝ }
-    ensures { λ r. ⌜ (r ≤ n) × (tightFrom (entries (now (log .entry))) (now (pages .entry)) n 0 ≡ pick (ltb r n) (verdict 14 r) accepted) ⌝ }
+    ensures { λ r. ⌜ (r ≤ n) × (tightFrom (entries (now (log .entry))) (now (pages .entry)) n 0 ≡ pick (ltb r n) (verdict pageOverfull r) accepted) ⌝ }
     ensures { λ _. ⌜ Memo (now (log .entry)) (now (memo .exit)) ⌝ }
 {
     let mut lo: usize = 0;

@@ -4,6 +4,7 @@ use mathlib.Core.List.{List, [], _∷_, _++_}
 use mathlib.Core.Bool.{Bool, true, false, not}
 use lib.ListN.{length}
 use lib.Dec.{ltb, leb, eqb}
+use Rattle.refusals.specs.Refusal.{entryDamaged, entryType, entryShape, lsnOrder, transactionOrder, clash, noRecord}
 use Rattle.endian.specs.Pick.{pick}
 use Rattle.wal.specs.Entry.{Entry, sizeOf, begin, commit, rollback, checkpoint}
 use Rattle.wal.specs.Read.{headerFault, readAt, first}
@@ -81,12 +82,12 @@ faultAfter full es e =
     (pick (isShaped e)
     (pick (ltb (lastLsn es) (e .lsn))
     (pick (inOrder es e)
-    (pick (any (clashes es e) es) 9
-    (pick (both (isBegin e) (full (count isBegin es))) 10 0))
-    8)
-    7)
-    6)
-    5
+    (pick (any (clashes es e) es) clash
+    (pick (both (isBegin e) (full (count isBegin es))) noRecord 0))
+    transactionOrder)
+    lsnOrder)
+    entryShape)
+    entryType
 
 -- ---- a list of entries, the first of which stands at a place, after the entries es
 
@@ -105,7 +106,7 @@ abbrev pub endVerdict : Reading → ℕ → Verdict
 endVerdict (Whole v) at = accepted
 endVerdict End at = accepted
 endVerdict Torn at = accepted
-endVerdict Damage at = verdict 4 at
+endVerdict Damage at = verdict entryDamaged at
 
 -- the first of two verdicts that refuses
 abbrev pub _then_ : Verdict → Verdict → Verdict

@@ -4,6 +4,7 @@ use mathlib.Core.List.{List, [], _∷_, _++_}
 use mathlib.Core.Bool.{Bool, true, false, not}
 use lib.ListN.{length, drop}
 use lib.Dec.{ltb, leb, eqb}
+use Rattle.refusals.specs.Refusal.{pageArea, pageLsn, noDataPage, pageOverfull}
 use Rattle.endian.specs.Pick.{pick}
 use Rattle.wal.specs.Entry.{Entry, sizeOf, begin, commit, rollback}
 use Rattle.wal.specs.Read.{first}
@@ -25,7 +26,7 @@ unfoldable pub pagesFrom : ℕ → ℕ → ℕ → List ℕ → ℕ → ℕ → 
 pagesFrom magic floor last s zero i = accepted
 pagesFrom magic floor last s (suc n) i =
     judged (faultOf magic i (pageAt i s)) i
-    (pick (ltb (max floor last) (lsnOf (pageAt i s))) (verdict 12 i) (pagesFrom magic floor last s n (suc i)))
+    (pick (ltb (max floor last) (lsnOf (pageAt i s))) (verdict pageLsn i) (pagesFrom magic floor last s n (suc i)))
 
 -- a change to a page beyond the lent ones or not of type 1
 unfoldable pub isStray : List ℕ → Entry → Bool
@@ -34,7 +35,7 @@ isStray s e = both (isChange e) (either (leb (pagesIn s) (pageOf e)) (not (eqb (
 -- 13, the earliest entry, the first of which stands at a place
 unfoldable pub strayFrom : List ℕ → List Entry → ℕ → Verdict
 strayFrom s [] at = accepted
-strayFrom s (e ∷ es) at = pick (isStray s e) (verdict 13 at) (strayFrom s es (at + sizeOf e))
+strayFrom s (e ∷ es) at = pick (isStray s e) (verdict noDataPage at) (strayFrom s es (at + sizeOf e))
 
 -- page i is touched
 abbrev pub isTouched : List Entry → ℕ → Bool
@@ -47,12 +48,12 @@ isTight es s i = both (isTouched es i) (ltb bodyBytes (roomFor (slotsFor (commit
 -- 14, the lowest of the n pages from i on
 unfoldable pub tightFrom : List Entry → List ℕ → ℕ → ℕ → Verdict
 tightFrom es s zero i = accepted
-tightFrom es s (suc n) i = pick (isTight es s i) (verdict 14 i) (tightFrom es s n (suc i))
+tightFrom es s (suc n) i = pick (isTight es s i) (verdict pageOverfull i) (tightFrom es s n (suc i))
 
 -- the verdict of recovery: 1, 2, 3; then entry by entry, 4 to 10 in turn; then page by page, 11 before 12; then 13; then 14
 unfoldable pub recoverVerdict : (ℕ → Bool) → ℕ → ℕ → List ℕ → List ℕ → Verdict
 recoverVerdict full magic floor pages log =
-    pick (sizeWrong pages) (verdict 1 0) accepted
+    pick (sizeWrong pages) (verdict pageArea 0) accepted
     then logVerdict full log
     then pagesFrom magic floor (lastLsn (entries log)) pages (pagesIn pages) 0
     then strayFrom pages (entries log) first

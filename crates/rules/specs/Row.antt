@@ -4,6 +4,7 @@ use mathlib.Core.List.{List, [], _∷_}
 use mathlib.Core.Bool.{Bool, true, false}
 use lib.ListN.{length, drop}
 use lib.Dec.{leb, eqb}
+use Rattle.refusals.specs.Refusal.{noSuchPage}
 use Rattle.endian.specs.Pick.{pick}
 use Rattle.wal.specs.Walk.{entries}
 use Rattle.page.specs.Layout.{dataType, pagesIn, pageAt, typeOf, slotAt, xminOf, xmaxOf, deletedOf, payloadOf}
@@ -17,7 +18,7 @@ use Rattle.rules.specs.declared.RowHead.{RowHead}
 -- the refusals of recovery without a table, then 15: on no lent page
 unfoldable pub rowVerdict : ℕ → ℕ → List ℕ → List ℕ → ℕ → Verdict
 rowVerdict magic floor pages log page =
-    recoverVerdict neverFull magic floor pages log then pick (leb (pagesIn pages) page) (verdict 15 0) accepted
+    recoverVerdict neverFull magic floor pages log then pick (leb (pagesIn pages) page) (verdict noSuchPage 0) accepted
 
 -- the tuple that recovery would leave in slot k of page i: none where the page is not of type 1
 unfoldable pub tupleOf : List ℕ → List ℕ → ℕ → ℕ → List ℕ

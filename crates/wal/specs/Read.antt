@@ -3,6 +3,7 @@ use Prim.Native.Nat.{ℕ, _+_, _-_}
 use mathlib.Core.List.{List}
 use lib.ListN.{length}
 use lib.Dec.{ltb, leb, eqb}
+use Rattle.refusals.specs.Refusal.{logTooLong, logHeader}
 use Rattle.endian.specs.Pick.{pick}
 use Rattle.endian.specs.Numbers.{part, numberOf, numberAt}
 use Rattle.crc32c.specs.Crc.{crc32c}
@@ -111,8 +112,8 @@ readBefore s p =
 -- ---- the file header: refusal 2 where the log is too long, 3 where its header is short or wrong, else 0
 unfoldable pub headerFault : List ℕ → ℕ
 headerFault s =
-    pick (ltb logLimit (length s)) 2
-    (pick (ltb (length s) first) 3
+    pick (ltb logLimit (length s)) logTooLong
+    (pick (ltb (length s) first) logHeader
     (pick (eqb (numberAt 4 0 s) (numberOf mark))
-    (pick (eqb (numberAt 2 4 s) 1) 0 3)
-    3))
+    (pick (eqb (numberAt 2 4 s) 1) 0 logHeader)
+    logHeader))

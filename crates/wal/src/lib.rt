@@ -4,6 +4,8 @@ ghost use Rattle.wal.specs.Read.{headerFault, readAt, readBefore};
 ghost use Rattle.wal.specs.Walk.{endOf};
 use endian::Lsn;
 use endian::TxnNumber;
+use refusals::LOG_HEADER;
+use refusals::LOG_TOO_LONG;
 
 pub mod inner;
 pub mod reader;
@@ -51,16 +53,16 @@ pub fn header_fault(log: &[u8]) -> u64
     ensures { λ r. ⌜ r ≡ headerFault (now (log .entry)) ⌝ }
 {
     if log.len() > LOG_LIMIT_BYTES {
-        return 2;
+        return LOG_TOO_LONG;
     }
     if log.len() < FIRST {
-        return 3;
+        return LOG_HEADER;
     }
     if endian::inner::u32_at(log, 0) != 0x4E4C4157 {
-        return 3;
+        return LOG_HEADER;
     }
     if endian::inner::u16_at(log, 4) != 1 {
-        return 3;
+        return LOG_HEADER;
     }
     0
 }

@@ -1,10 +1,13 @@
-//! The constants of the C header are those that Rust callers use.
+//! The constants of the C header are those that Rust callers use, and the refusals those of the proved code and of its
+//! rules.
 
 use std::collections::BTreeMap;
 
 use library::refusal::{DONE, REFUSALS};
 
 const HEADER: &str = include_str!("../../../../include/lumbraquay.h");
+const CODE: &str = include_str!("../../../../crates/refusals/src/lib.rt");
+const RULES: &str = include_str!("../../../../crates/refusals/specs/Refusal.antt");
 
 /// Every `LQ_NAME = number` and `#define LQ_NAME number` of the header.
 fn constants() -> BTreeMap<&'static str, u64> {
@@ -55,4 +58,39 @@ fn names_and_numbers_are_the_same() {
     assert!((1..)
         .zip(REFUSALS)
         .all(|(number, refusal)| refusal.number == number));
+}
+
+/// `noDataPage` for `NO_DATA_PAGE`.
+fn camel_case(name: &str) -> String {
+    let lower = name.to_lowercase();
+    let mut words = lower.split('_');
+    let first = words.next().unwrap_or_default().to_string();
+    words.fold(first, |name, word| {
+        name + &word[..1].to_uppercase() + &word[1..]
+    })
+}
+
+#[test]
+fn refusals_are_one_list() {
+    let code: Vec<String> = CODE
+        .lines()
+        .filter(|line| line.starts_with("pub const"))
+        .map(String::from)
+        .collect();
+    let rules: Vec<String> = RULES
+        .lines()
+        .filter(|line| line.contains(" = "))
+        .map(String::from)
+        .collect();
+    let expected = |line: fn(&str, u64) -> String| -> Vec<String> {
+        REFUSALS.iter().map(|it| line(it.name, it.number)).collect()
+    };
+    assert_eq!(
+        code,
+        expected(|name, number| format!("pub const {name}: u64 = {number};"))
+    );
+    assert_eq!(
+        rules,
+        expected(|name, number| format!("{} = {number}", camel_case(name)))
+    );
 }

@@ -1,0 +1,66 @@
+-- The refusals by number (paper 01, Numbers given back): one list, the same as in src/lib.rt and include/lumbraquay.h.
+use Prim.Native.Nat.{ℕ}
+
+-- page bytes no multiple of a page's, or too many pages
+abbrev pub pageArea : ℕ
+pageArea = 1
+
+-- log too long
+abbrev pub logTooLong : ℕ
+logTooLong = 2
+
+-- log header short or wrong
+abbrev pub logHeader : ℕ
+logHeader = 3
+
+-- damaged entry
+abbrev pub entryDamaged : ℕ
+entryDamaged = 4
+
+-- type not 1 to 5, 7, 10
+abbrev pub entryType : ℕ
+entryType = 5
+
+-- wrong shape for its type
+abbrev pub entryShape : ℕ
+entryShape = 6
+
+-- LSN not above the last
+abbrev pub lsnOrder : ℕ
+lsnOrder = 7
+
+-- order rule on transactions
+abbrev pub transactionOrder : ℕ
+transactionOrder = 8
+
+-- change to a slot that another unended transaction has changed
+abbrev pub clash : ℕ
+clash = 9
+
+-- Begin with no record left
+abbrev pub noRecord : ℕ
+noRecord = 10
+
+-- page not good
+abbrev pub pageNotGood : ℕ
+pageNotGood = 11
+
+-- page LSN above both floor and last LSN
+abbrev pub pageLsn : ℕ
+pageLsn = 12
+
+-- change to a page beyond the lent ones or not of type 1
+abbrev pub noDataPage : ℕ
+noDataPage = 13
+
+-- slots and tuples do not fit the page
+abbrev pub pageOverfull : ℕ
+pageOverfull = 14
+
+-- row asked for on no lent page
+abbrev pub noSuchPage : ℕ
+noSuchPage = 15
+
+-- free map shorter than needed
+abbrev pub mapShort : ℕ
+mapShort = 16

@@ -1,0 +1,32 @@
+// The refusals by name: one list, the same as in specs/Refusal.antt and include/lumbraquay.h. docs/API.md says when each is given.
+pub const PAGE_AREA: u64 = 1;
+
+pub const LOG_TOO_LONG: u64 = 2;
+
+pub const LOG_HEADER: u64 = 3;
+
+pub const ENTRY_DAMAGED: u64 = 4;
+
+pub const ENTRY_TYPE: u64 = 5;
+
+pub const ENTRY_SHAPE: u64 = 6;
+
+pub const LSN_ORDER: u64 = 7;
+
+pub const TRANSACTION_ORDER: u64 = 8;
+
+pub const CLASH: u64 = 9;
+
+pub const NO_RECORD: u64 = 10;
+
+pub const PAGE_NOT_GOOD: u64 = 11;
+
+pub const PAGE_LSN: u64 = 12;
+
+pub const NO_DATA_PAGE: u64 = 13;
+
+pub const PAGE_OVERFULL: u64 = 14;
+
+pub const NO_SUCH_PAGE: u64 = 15;
+
+pub const MAP_SHORT: u64 = 16;
