@@ -10,14 +10,14 @@ use lib.Seq.{drop-drop, take-take, take-add}
 use lib.Dec.{leb, eqb, eqb·suc-zero}
 use borrow.Author.Tests.{eqb-true, eq-eqb, ne-eqb, lt-leb, le-leb}
 use Rattle.endian.specs.Numbers.{part, numberOf, numberAt, Bytes}
-use Rattle.endian.proofs.Places.{number-byte, number-take, number-drop, part-take, part-drop}
+use Rattle.endian.proofs.Places.{part-take, part-drop}
 use Rattle.endian.proofs.Bytes.{bytes-take, bytes-drop}
 use Rattle.crc32c.proofs.Lanes.{part-length}
 use Rattle.wal.specs.Entry.{keyPart, oldPart, newPart, entryOf, insert, delete, update, checkpoint}
 use Rattle.wal.specs.declared.EntryView.{EntryView}
 use Rattle.wal.proofs.WalkLaws.{EntryAt}
 use Rattle.wal.proofs.Places.{key-length, old-length, new-length}
-use Rattle.page.specs.Layout.{deletedOf}
+use Rattle.page.proofs.Reading.{deleted-in}
 use Rattle.rules.specs.Shape.{both, isImage, isNone, isKeyed, isBare, isShaped, same}
 use Rattle.rules.proofs.Tests.{false-true, both-true}
 
@@ -114,9 +114,7 @@ module _ (s : List ℕ) (a n : ℕ) (room : a + n ≤ length s) where
 
   pub image-is : 24 ≤ n → n ≤ 16316 → isImage (part a n s) ≡ leb (getD s (a + 16) 0) 1
   unfolding isImage
-  image-is h k =
-      let d : deletedOf (part a n s) ≡ getD s (a + 16) 0 = number-take 1 16 n (drop a s) (omega arith) ∙ number-drop 1 16 a s ∙ number-byte (a + 16) s in
-      rw (part-length s a n room, le-leb 24 n h, le-leb n 16316 k, d)
+  image-is h k = rw (part-length s a n room, le-leb 24 n h, le-leb n 16316 k, deleted-in s a n h)
 
   -- after the key again
   pub keyed-short : (k : ℕ) → k + 10 ≤ length s → n < 10 → isKeyed (part k 10 s) (part a n s) ≡ false

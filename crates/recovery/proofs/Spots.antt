@@ -5,12 +5,12 @@ use mathlib.Core.Bool.{Bool, true, false}
 use mathlib.Core.Logic.{_⊎_, inl, inr}
 use mathlib.Core.List.{List, []}
 use native.Mathlib.Omega.{arith}
-use lib.ListN.{length, drop, getD}
+use lib.ListN.{length, drop}
 use borrow.Author.Tests.{eq-eqb, ne-eqb, le-leb, lt-leb}
 use Rattle.rules.proofs.Tests.{false-true}
 use Rattle.endian.specs.Numbers.{part, Bytes}
 use Rattle.endian.specs.declared.TxnNumber.{TxnNumber}
-use Rattle.endian.proofs.Places.{part-take, part-drop, number-byte, number-take, number-drop}
+use Rattle.endian.proofs.Places.{part-take, part-drop}
 use Rattle.wal.specs.Read.{first}
 use Rattle.wal.specs.Walk.{entries}
 use Rattle.page.specs.Layout.{pageBytes, dataType, pagesIn, pageAt, typeOf, slotAt}
@@ -67,12 +67,6 @@ tuple-images log o i k =
 
 pub decided-good : (log p : List ℕ) → Ordered log → Sound p → (i k : ℕ) → TupleGood (decided (committed (entries log)) (entries log) i k (slotAt p k))
 decided-good log p o g i k = decided-keeps TupleGood (committed (entries log)) (entries log) i k (slotAt p k) (tuple-images log o i k) (slot-good p k (g .size) (g .good))
-
--- ---- the type of a page
-
-pub type-at : (pages : List ℕ) (i : ℕ) → typeOf (pageAt i pages) ≡ getD pages (i * pageBytes + 8) 0
-type-at pages i =
-    number-take 1 8 pageBytes (drop (i * pageBytes) pages) (omega arith) ∙ number-drop 1 8 (i * pageBytes) pages ∙ number-byte (i * pageBytes + 8) pages
 
 -- ---- verdicts
 module _ (magic floor : ℕ) (pages log : List ℕ) (i : ℕ) where
