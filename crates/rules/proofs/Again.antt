@@ -23,7 +23,7 @@ use Rattle.page.specs.Good.{TupleGood}
 use Rattle.page.specs.Fault.{verdict, sizeWrong}
 use Rattle.page.specs.declared.Verdict.{Verdict}
 use Rattle.page.proofs.FaultLaws.{sound-good, good-sound}
-use Rattle.rules.specs.Shape.{isChange, isShaped, beforeOf, afterOf}
+use Rattle.rules.specs.Shape.{isChange, beforeOf, afterOf}
 use Rattle.rules.specs.Order.{lastLsn, fullAt, orderFrom, endVerdict, logVerdict, _then_}
 use Rattle.rules.specs.Mend.{committed, changes, lastOn, decided, mendBy, mend, Accepts}
 use Rattle.rules.specs.Recover.{recoverVerdict, mendedFrom, done, refused, recoverOf, Recovered}
@@ -31,8 +31,8 @@ use Rattle.rules.specs.declared.Record.{Record}
 use Rattle.rules.proofs.Slots.{Images, last-append}
 use Rattle.rules.proofs.Mended.{slot-mended, length-mended, mend-again}
 use Rattle.rules.proofs.Accepted.{mend-accepted}
-use Rattle.rules.proofs.OrderLaws.{Every, every-map, InTurn, in-turn, all-shaped, last-bounds, last-small}
-use Rattle.rules.proofs.ImageLaws.{InRange, images-good, images-bytes, images-of}
+use Rattle.rules.proofs.OrderLaws.{every-map, InTurn, in-turn, last-bounds, last-small}
+use Rattle.rules.proofs.ImageLaws.{InRange, images-bytes, images-of, tuple-images}
 use Rattle.rules.proofs.Range.{in-range}
 use Rattle.rules.proofs.Verdicts.{Accepted, is-accepted, accepted-is, then-zero}
 use Rattle.rules.proofs.Area.{page-mended, mended-alike, page-length}
@@ -112,11 +112,8 @@ module _ (full : ℕ → Bool) (magic floor₁ floor : ℕ) (P L : List ℕ) (bP
   longer : (fs : List Entry) × (E₁ ++ fs ≡ E₂)
   longer = cut-entries L c₁ c₂ le
 
-  shaped : Every (λ e. isShaped e ≡ true) E₁
-  shaped = all-shaped full [] E₁ (log-in-turn full (take c₁ L) (A₁ .logOk))
-
   tuples : (i k : ℕ) → Images TupleGood (changes i k E₁)
-  tuples i k = images-of TupleGood i k E₁ (every-map (λ e. isShaped e ≡ true) (λ e. isChange e ≡ true → TupleGood (beforeOf e) × TupleGood (afterOf e)) (λ e s c. images-good e c s) E₁ shaped)
+  tuples = tuple-images full E₁ (log-in-turn full (take c₁ L) (A₁ .logOk))
 
   bytes : (i k : ℕ) → Images Bytes (changes i k E₁)
   bytes i k = images-of Bytes i k E₁ (every-map InRange (λ e. isChange e ≡ true → Bytes (beforeOf e) × Bytes (afterOf e)) (λ e r c. images-bytes e r) E₁ (in-range (take c₁ L) (bytes-take c₁ bL)))
