@@ -18,11 +18,11 @@ use Rattle.rules.specs.Order.{one, count, isBegin}
 use Rattle.rules.specs.Recover.{consIf, recordOf, recordsOf, tableAfter}
 use Rattle.rules.specs.declared.Record.{Record}
 use Rattle.rules.proofs.Tests.{both-true}
+use Rattle.rules.proofs.Counts.{count-append, records-append}
 use Rattle.fates.specs.Fate.{Ordered}
 use Rattle.fates.proofs.Turns.{still, arrived, turn-at, passes-at}
 use Rattle.records.specs.Forward.{beginIn, closedBy}
-use Rattle.records.proofs.Begins.{said-size, records-append, Found, found}
-use Rattle.records.proofs.Closings.{count-append}
+use Rattle.records.proofs.Begins.{said-size, Found, found}
 
 -- ---- lists
 
