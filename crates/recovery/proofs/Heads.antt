@@ -20,8 +20,8 @@ use Rattle.rules.specs.Shape.{stamped}
 use Rattle.rules.specs.Row.{headOf, refusedRow}
 use Rattle.rules.proofs.ImageLaws.{stamped-length, stamped-deleted}
 use Rattle.images.specs.declared.Image.{Image}
-use Rattle.images.specs.Tuples.{Lies, tupleIn}
-use Rattle.recovery.specs.Spot.{tupleAt, filledBy}
+use Rattle.images.specs.Tuples.{Lies, tupleAt, tupleIn}
+use Rattle.recovery.specs.Spot.{filledBy}
 
 -- ---- the header of a tuple by its fields
 

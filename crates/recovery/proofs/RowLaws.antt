@@ -17,11 +17,11 @@ use Rattle.rules.specs.Row.{rowVerdict, tupleOf, headOf, refusedRow, rowOf, row
 use Rattle.rules.specs.declared.RowHead.{RowHead}
 use Rattle.rules.proofs.Tests.{false-true}
 use Rattle.images.specs.declared.Image.{Image}
-use Rattle.images.specs.Tuples.{Lies, tupleIn}
+use Rattle.images.specs.Tuples.{Lies, tupleAt, tupleIn}
 use Rattle.images.proofs.Changes.{drop-part}
 use Rattle.recovery.specs.declared.Spot.{Spot}
 use Rattle.recovery.specs.declared.Located.{Located}
-use Rattle.recovery.specs.Spot.{tupleAt, locatedBy, Spotted, Lying}
+use Rattle.recovery.specs.Spot.{locatedBy, Spotted, Lying}
 use Rattle.recovery.proofs.Heads.{stamped-payload, tuple-logged, tuple-paged, tuple-empty, head-logged, head-paged, image-long}
 
 -- ---- the payload of an image
