@@ -7,11 +7,11 @@ use Prim.Native.Nat.{ℕ, zero, suc, _+_, _≤_}
 use native.Mathlib.Omega.{arith}
 use mathlib.Core.List.{List, [], _∷_, _++_}
 use lib.Dec.{eqb}
-use Rattle.endian.specs.Pick.{pick}
+use Rattle.endian.specs.Pick.{pick, consIf}
 use Rattle.wal.specs.Entry.{Entry, commit, rollback}
 use Rattle.rules.specs.Shape.{both, isChange}
 use Rattle.rules.specs.Order.{one, count, any, is, isBegin}
-use Rattle.rules.specs.Recover.{outcomeOf, transactions, changesOf, changesZero, recordOf, recordsOf, consIf}
+use Rattle.rules.specs.Recover.{outcomeOf, transactions, changesOf, changesZero, recordOf, recordsOf}
 
 -- ---- entries in two parts
 

@@ -9,10 +9,11 @@ use lib.ListN.{length, getD, set, List·getD-append}
 use lib.Seq.{getD-append-add, set-append-left}
 use lib.Dec.{eqb}
 use borrow.Author.Tests.{eqb-true, eqb-false, eq-eqb}
+use Rattle.endian.specs.Pick.{consIf}
 use Rattle.wal.specs.Entry.{Entry, begin}
 use Rattle.rules.specs.Shape.{both}
 use Rattle.rules.specs.Order.{one, count, is, isBegin}
-use Rattle.rules.specs.Recover.{recordOf, recordsOf, consIf}
+use Rattle.rules.specs.Recover.{recordOf, recordsOf}
 use Rattle.rules.specs.declared.Record.{Record}
 use Rattle.rules.proofs.Counts.{count-append, records-append}
 use Rattle.tally.specs.Flat.{four, flat}
