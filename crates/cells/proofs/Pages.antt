@@ -14,7 +14,7 @@ use Rattle.wal.proofs.Prefix.{before-first, before-next, met-split, onward-next
 use Rattle.rules.specs.Shape.{both, isOn, slotOf, topOn, lsnOn}
 use Rattle.rules.specs.Order.{lastLsn}
 use Rattle.rules.specs.Mend.{topOf, lastOn}
-use Rattle.rules.proofs.OrderLaws.{Every, last-snoc}
+use Rattle.rules.proofs.OrderLaws.{Every, last-snoc, lsn-le}
 use Rattle.rules.proofs.ImageLaws.{InRange}
 use Rattle.rules.proofs.Range.{in-range}
 use Rattle.rules.proofs.Slots.{top-append, last-append}
@@ -67,14 +67,6 @@ entries-top : (i : ℕ) (es : List Entry) → Every InRange es → topOf i es �
 unfolding topOf
 entries-top i [] h = omega arith
 entries-top i (e ∷ es) h = omega (arith, entry-top i e (h .0), entries-top i es (h .1))
-
-lsn-le : (i : ℕ) (e : Entry) → lsnOn i e ≤ e .lsn
-unfolding lsnOn
-lsn-le i e = go (isOn i e)
-  where
-    go : (b : Bool) → pick b (e .lsn) 0 ≤ e .lsn
-    go true = omega arith
-    go false = omega arith
 
 module _ {s : List ℕ} where
   pub top-le : Bytes s → {p : ℕ} → Met s p → (i : ℕ) → topOf i (before s p) ≤ 65536

@@ -23,6 +23,7 @@ use Rattle.page.specs.Good.{TupleGood}
 use Rattle.page.specs.Fault.{verdict, sizeWrong}
 use Rattle.page.specs.declared.Verdict.{Verdict}
 use Rattle.page.proofs.FaultLaws.{sound-good, good-sound}
+use Rattle.page.proofs.Verdicts.{page-length}
 use Rattle.rules.specs.Shape.{isChange, beforeOf, afterOf}
 use Rattle.rules.specs.Order.{lastLsn, fullAt, orderFrom, endVerdict, logVerdict, _then_}
 use Rattle.rules.specs.Mend.{committed, changes, lastOn, decided, mendBy, mend, Accepts}
@@ -35,7 +36,7 @@ use Rattle.rules.proofs.OrderLaws.{every-map, InTurn, in-turn, last-bou
 use Rattle.rules.proofs.ImageLaws.{InRange, images-bytes, images-of, tuple-images}
 use Rattle.rules.proofs.Range.{in-range}
 use Rattle.rules.proofs.Verdicts.{Accepted, is-accepted, accepted-is, then-zero}
-use Rattle.rules.proofs.Area.{page-mended, mended-alike, page-length}
+use Rattle.rules.proofs.Area.{page-mended, mended-alike}
 
 which : (b : Bool) (x y : Recovered) (v : Verdict) → eqb (v .number) 0 ≡ b → y .answer .number ≡ v .number → pick b x y .answer .number ≡ 0 → v .number ≡ 0
 which true x y v e f k = eqb-true _ _ e

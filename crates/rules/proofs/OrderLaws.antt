@@ -82,7 +82,7 @@ last-snoc [] f = refl
 last-snoc (e ∷ []) f = refl
 last-snoc (e ∷ g ∷ es) f = last-snoc (g ∷ es) f
 
-lsn-le : (i : ℕ) (e : Entry) → lsnOn i e ≤ e .lsn
+pub lsn-le : (i : ℕ) (e : Entry) → lsnOn i e ≤ e .lsn
 unfolding lsnOn
 lsn-le i e = go (isOn i e)
   where
