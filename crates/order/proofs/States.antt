@@ -11,7 +11,7 @@ use Rattle.endian.specs.Pick.{pick}
 use Rattle.wal.specs.Entry.{Entry, begin, commit, rollback, checkpoint}
 use Rattle.rules.specs.Shape.{both, either, isChange, isShaped, isBare}
 use Rattle.rules.specs.Order.{one, count, any, is, isBegin, begun, ended, isOpen, inOrder}
-use Rattle.rules.proofs.Tests.{both-true}
+use Rattle.rules.proofs.Tests.{both-true, either-none}
 use Rattle.order.specs.State.{stateAfter, stateFrom, stateOf, mayFollow, ordered}
 
 -- ---- one entry more
@@ -42,11 +42,7 @@ none-changed t s (e ∷ es) h = go (eqb (e .txn) t) (either (eqb (e .kind) commi
     go false b false k = (k .0, omega arith)
 
 any-snoc : (f : Entry → Bool) (es : List Entry) (e : Entry) → any f (es ++ (e ∷ [])) ≡ either (any f es) (f e)
-any-snoc f [] e = go (f e)
-  where
-    go : (b : Bool) → either b false ≡ b
-    go true = refl
-    go false = refl
+any-snoc f [] e = either-none (f e)
 any-snoc f (d ∷ es) e = rw (any-snoc f es e) (go (f d))
   where
     go : (b : Bool) → either b (either (any f es) (f e)) ≡ either (either b (any f es)) (f e)

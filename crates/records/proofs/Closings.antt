@@ -17,6 +17,7 @@ use Rattle.wal.proofs.Prefix.{met-split, met-next, before-next, onward-next, on
 use Rattle.rules.specs.Shape.{both, isKnown, isChange, isChanging}
 use Rattle.rules.specs.Order.{one, count, isBegin, neverFull}
 use Rattle.rules.specs.Recover.{outcomeOf, recordOf}
+use Rattle.rules.proofs.Tests.{both-none}
 use Rattle.rules.proofs.OrderLaws.{Passes, numbered, InTurn}
 use Rattle.rules.proofs.Counts.{count-append}
 use Rattle.order.specs.State.{stateAfter, stateOf}
@@ -27,11 +28,7 @@ use Rattle.fates.proofs.Endings.{fate-is}
 use Rattle.records.specs.Forward.{closedBy, closing}
 
 changing-other : (t : ℕ) (e : Entry) → eqb (e .txn) t ≡ false → changing t e ≡ false
-changing-other t e h = rw h (go (isChange e))
-  where
-    go : (b : Bool) → both b false ≡ false
-    go true = refl
-    go false = refl
+changing-other t e h = rw h (both-none (isChange e))
 
 -- ---- no change behind the ending
 
@@ -93,11 +90,7 @@ closing-is t l n full m es (f ∷ fs) h told s =
         rw (k, ← z) (more (m + 1) (state-snoc t es f ∙ rw (w, c, q)))
     go false c r w p q more none =
         let z : 0 + count (changing t) fs ≡ count (changing t) fs = omega arith in
-        rw (none-of (isChange f), none-of c, none-of r, z) (more m (state-snoc t es f ∙ rw w s))
-      where
-        none-of : (b : Bool) → both b false ≡ false
-        none-of true = refl
-        none-of false = refl
+        rw (both-none (isChange f), both-none c, both-none r, z) (more m (state-snoc t es f ∙ rw w s))
 
 -- ---- the record of a Begin
 

@@ -11,7 +11,6 @@ use mathlib.Core.List.{List, [], _++_}
 use lib.ListN.{length, take}
 use lib.Dec.{eqb}
 use borrow.Author.Tests.{eq-eqb, eqb-true}
-use Rattle.endian.specs.Pick.{pick}
 use Rattle.endian.specs.Numbers.{Bytes}
 use Rattle.endian.proofs.Bytes.{bytes-take, bytes-drop}
 use Rattle.wal.specs.Entry.{Entry}
@@ -27,7 +26,7 @@ use Rattle.page.proofs.Verdicts.{page-length}
 use Rattle.rules.specs.Shape.{isChange, beforeOf, afterOf}
 use Rattle.rules.specs.Order.{lastLsn, fullAt, orderFrom, endVerdict, logVerdict, _then_}
 use Rattle.rules.specs.Mend.{committed, changes, lastOn, decided, mendBy, mend, Accepts}
-use Rattle.rules.specs.Recover.{recoverVerdict, mendedFrom, done, refused, recoverOf, Recovered}
+use Rattle.rules.specs.Recover.{recoverVerdict, mendedFrom, done, refused, recoverBy, recoverOf, Recovered}
 use Rattle.rules.specs.declared.Record.{Record}
 use Rattle.rules.proofs.Slots.{Images, last-append}
 use Rattle.rules.proofs.Mended.{slot-mended, length-mended, mend-again}
@@ -38,9 +37,13 @@ use Rattle.rules.proofs.Range.{in-range}
 use Rattle.rules.proofs.Verdicts.{Accepted, is-accepted, accepted-is, then-zero}
 use Rattle.rules.proofs.Area.{page-mended, mended-alike}
 
-which : (b : Bool) (x y : Recovered) (v : Verdict) → eqb (v .number) 0 ≡ b → y .answer .number ≡ v .number → pick b x y .answer .number ≡ 0 → v .number ≡ 0
-which true x y v e f k = eqb-true _ _ e
-which false x y v e f k = sym f ∙ k
+-- an answer of 0 comes from no refusal
+pub answer-zero : (v : Verdict) (pages log : List ℕ) (table : List Record) → recoverBy v pages log table .answer .number ≡ 0 → v .number ≡ 0
+answer-zero v pages log table h = go (eqb (v .number) 0) refl h
+  where
+    go : (b : Bool) → eqb (v .number) 0 ≡ b → recoverBy v pages log table .answer .number ≡ 0 → v .number ≡ 0
+    go true e k = eqb-true (v .number) 0 e
+    go false e k = rw e at k
 
 -- the two ways of recovery
 module _ (magic floor : ℕ) (pages log : List ℕ) (table : List Record) where
@@ -57,13 +60,9 @@ module _ (magic floor : ℕ) (pages log : List ℕ) (table : List Record) where
   unfolding recoverOf
   recover-refused h = rw h
 
-  -- an answer of 0 comes from no refusal
   pub recover-zero : recoverOf magic floor pages log table .answer .number ≡ 0 → recoverVerdict (fullAt (length table)) magic floor pages log .number ≡ 0
   unfolding recoverOf
-  recover-zero h = which (eqb (v .number) 0) _ _ v refl refl h
-    where
-      v : Verdict
-      v = recoverVerdict (fullAt (length table)) magic floor pages log
+  recover-zero h = answer-zero (recoverVerdict (fullAt (length table)) magic floor pages log) pages log table h
 
   pub zero-accepted : recoverOf magic floor pages log table .answer .number ≡ 0 → Accepted (fullAt (length table)) magic floor pages log
   zero-accepted h = is-accepted (fullAt (length table)) magic floor pages log (recover-zero h)

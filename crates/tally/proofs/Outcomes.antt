@@ -14,6 +14,7 @@ use Rattle.wal.proofs.Prefix.{met-end, before-end}
 use Rattle.rules.specs.Shape.{both, either, isChanging}
 use Rattle.rules.specs.Order.{one, count, any, is, isBegin, neverFull}
 use Rattle.rules.specs.Recover.{outcomeOf, transactions}
+use Rattle.rules.proofs.Tests.{either-none}
 use Rattle.rules.proofs.OrderLaws.{Passes, numbered}
 use Rattle.rules.proofs.Counts.{count-append, transactions-sum}
 use Rattle.order.specs.State.{stateOf}
@@ -26,10 +27,6 @@ abbrev pub isKind : ℕ → Entry → Bool
 isKind k e = eqb (e .kind) k
 
 -- ---- outcomes after one entry more
-
-either-none : (b : Bool) → either b false ≡ b
-either-none true = refl
-either-none false = refl
 
 module _ (es : List Entry) (f : Entry) (u : ℕ) where
   after : outcomeOf (es ++ (f ∷ [])) u ≡ pick (either (any (is commit u) es) (either (is commit u f) false)) 1 (pick (either (any (is rollback u) es) (either (is rollback u f) false)) 2 0)
