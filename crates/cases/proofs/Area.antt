@@ -1,12 +1,15 @@
 -- Packed pages one after the other: their number, and each of them.
 -- Assumes nothing.
 use mathlib.Core.Path.{_≡_, refl, sym, ap, _∙_}
+use mathlib.Core.Logic.{inl, inr}
 use Prim.Native.Nat.{ℕ, zero, suc, _+_, _*_, _/_, _^_, _≤_, _<_}
 use native.Mathlib.Omega.{arith}
 use native.Mathlib.Nat.{add-zero}
 use mathlib.Core.List.{List, [], _∷_, _++_}
 use lib.ListN.{length, getD, replicate, length-append}
-use Rattle.endian.specs.Numbers.{Bytes}
+use lib.Dec.{lit<, lit≤}
+use Rattle.endian.specs.Numbers.{Bytes, numberOf, numberAt}
+use Rattle.endian.proofs.Bytes.{bytes-nil}
 use Rattle.page.specs.Layout.{pageBytes, bodyBytes, dataType, pagesIn, pageAt, typeOf, lsnOf, countOf, slotAt}
 use Rattle.page.specs.Packed.{Head, packed, roomFor}
 use Rattle.page.specs.Good.{Good, TupleGood}
@@ -14,7 +17,8 @@ use Rattle.page.proofs.Fields.{count-back, lsn-back, type-back}
 use Rattle.page.proofs.Slots.{length-packed, slot-back}
 use Rattle.page.proofs.Goodness.{packed-good, body-bytes}
 use Rattle.rules.proofs.Area.{page-first, page-later}
-use Rattle.cases.specs.Build.{Page, page, headOf, magic, pageOf, areaFrom, area}
+use Rattle.cases.specs.Build.{Page, page, tuple, headOf, magic, pageOf, areaFrom, area}
+use Rattle.cases.proofs.Parts.{tuple-bytes}
 
 -- what a page of the cases keeps
 pub record PageOk (p : Page) : Type 0 where
@@ -22,6 +26,22 @@ pub record PageOk (p : Page) : Type 0 where
   pub tuples : (k : ℕ) → TupleGood (getD (p .slots) k [])
   pub bytes : (k : ℕ) → Bytes (getD (p .slots) k [])
   pub room : roomFor (p .slots) ≤ bodyBytes
+
+pub empty-ok : PageOk (page 0 [])
+empty-ok = record { small = lit< tt; tuples = λ k. inl refl; bytes = λ k. bytes-nil; room = lit≤ tt }
+
+-- a page of one tuple of thirty bytes, the last of which is n
+pub filled-ok : (lsn n : ℕ) → lsn < 2 ^ 64 → n < 256 → PageOk (page lsn (tuple 29 n ∷ []))
+unfolding numberAt numberOf
+filled-ok lsn n l h = record { small = l; tuples = good; bytes = bytes; room = lit≤ tt }
+  where
+    good : (k : ℕ) → TupleGood (getD (tuple 29 n ∷ []) k [])
+    good zero = inr (lit≤ tt, lit≤ tt)
+    good (suc k) = inl refl
+
+    bytes : (k : ℕ) → Bytes (getD (tuple 29 n ∷ []) k [])
+    bytes zero = tuple-bytes 29 n h
+    bytes (suc k) = bytes-nil
 
 abbrev pub EachPage : (Page → Type 0) → List Page → Type 0
 EachPage P [] = Unit {0}

@@ -1,7 +1,7 @@
 -- The example history meets every hypothesis of demand 3: it is honest, its pages stand at their moments, the cut has what they felt, and recovery accepts.
 -- Assumes nothing.
 use mathlib.Core.Path.{_≡_, refl, sym, ap, _∙_, subst}
-use mathlib.Core.Logic.{_⊎_, inl, inr}
+use mathlib.Core.Logic.{_⊎_}
 use mathlib.Core.Bool.{Bool, true, false}
 use Prim.Native.Nat.{ℕ, zero, suc, _+_, _≤_, _<_}
 use native.Mathlib.Omega.{arith}
@@ -10,8 +10,7 @@ use lib.ListN.{length, take, drop, getD, replicate}
 use lib.Dec.{eqb, lit<, lit≤}
 use borrow.Author.Tests.{eqb-true}
 use Rattle.endian.specs.Pick.{pick}
-use Rattle.endian.specs.Numbers.{Bytes, bytesOf, numberOf, numberAt}
-use Rattle.endian.proofs.Bytes.{bytes-nil}
+use Rattle.endian.specs.Numbers.{bytesOf, numberOf, numberAt}
 use Rattle.wal.specs.Entry.{Entry, AllEncodable, encoded, encodedAll, unsealed, header, sizesOf}
 use Rattle.wal.specs.Read.{headerFault, readAt}
 use Rattle.wal.specs.Walk.{entries, endOf}
@@ -20,7 +19,6 @@ use Rattle.wal.specs.declared.Reading.the-variants.{Whole, Torn}
 use Rattle.wal.proofs.WalkLaws.{not-torn}
 use Rattle.wal.proofs.Encoding.{entries-encoded, end-encoded, entries-log}
 use Rattle.page.specs.Layout.{dataType, pagesIn, pageAt, typeOf, slotAt}
-use Rattle.page.specs.Good.{TupleGood}
 use Rattle.rules.specs.Shape.{Change, both, isKnown, isChange, isChanging, isImage, same, isKeyed, isBare, isShaped, pageOf, slotOf, beforeOf, afterOf, isOn, effectOn, topOn, sameSlot}
 use Rattle.rules.specs.Order.{begun, ended, isOpen, inOrder, clashes, faultAfter, orderFrom}
 use Rattle.rules.specs.Mend.{committed, changes, topOf, decided}
@@ -33,32 +31,17 @@ use Rattle.cases.specs.Build.{begins, commits, inserts, updates, magic, 
 use Rattle.cases.specs.Starred.{a, b, c, noRecord}
 use Rattle.cases.specs.Example.{before, steps, whole, log, cut, moment, stood}
 use Rattle.cases.proofs.Parts.{tuple-bytes, bare, insertable, updatable}
-use Rattle.cases.proofs.Area.{PageOk, EachPage, pages-in, page-at, slot-of, type-of}
+use Rattle.cases.proofs.Area.{PageOk, EachPage, empty-ok, filled-ok, pages-in, page-at, slot-of, type-of}
 use Rattle.cases.proofs.Pages.{Says, Computes, number}
 
 -- ---- pages
 
-filled : (lsn n : ℕ) → lsn < 100 → n < 256 → PageOk (page lsn ((replicate 29 0 ++ (n ∷ [])) ∷ []))
-unfolding numberAt numberOf
-filled lsn n l h = record { small = omega arith; tuples = good; bytes = bytes; room = lit≤ tt }
-  where
-    good : (k : ℕ) → TupleGood (getD ((replicate 29 0 ++ (n ∷ [])) ∷ []) k [])
-    good zero = inr (lit≤ tt, lit≤ tt)
-    good (suc k) = inl refl
-
-    bytes : (k : ℕ) → Bytes (getD ((replicate 29 0 ++ (n ∷ [])) ∷ []) k [])
-    bytes zero = tuple-bytes 29 n h
-    bytes (suc k) = bytes-nil
-
-empty-ok : PageOk (page 0 [])
-empty-ok = record { small = lit< tt; tuples = λ k. inl refl; bytes = λ k. bytes-nil; room = lit≤ tt }
-
 -- the slots of the starting pages
 first-ok : EachPage PageOk (page 0 (a ∷ []) ∷ page 0 [] ∷ [])
-first-ok = (filled 0 1 (lit< tt) (lit< tt), (empty-ok, tt))
+first-ok = (filled-ok 0 1 (lit< tt) (lit< tt), (empty-ok, tt))
 
 first-0 : (k : ℕ) → slotAt (pageAt 0 before) k ≡ getD (a ∷ []) k []
-first-0 k = ap (λ (p : List ℕ). slotAt p k) (page-at (page 0 (a ∷ []) ∷ page 0 [] ∷ []) first-ok 0 (lit< tt)) ∙ slot-of 0 _ (filled 0 1 (lit< tt) (lit< tt)) k
+first-0 k = ap (λ (p : List ℕ). slotAt p k) (page-at (page 0 (a ∷ []) ∷ page 0 [] ∷ []) first-ok 0 (lit< tt)) ∙ slot-of 0 _ (filled-ok 0 1 (lit< tt) (lit< tt)) k
 
 first-1 : (k : ℕ) → slotAt (pageAt 1 before) k ≡ []
 first-1 k = ap (λ (p : List ℕ). slotAt p k) (page-at (page 0 (a ∷ []) ∷ page 0 [] ∷ []) first-ok 1 (lit< tt)) ∙ slot-of 1 _ empty-ok k
@@ -135,7 +118,7 @@ example = record { pages = before; steps = steps; log = log; honest = honest; in
 -- ---- the pages stand at their moments
 
 pub stood-ok : EachPage PageOk (page 7 (c ∷ []) ∷ page 5 (a ∷ []) ∷ [])
-stood-ok = (filled 7 3 (lit< tt) (lit< tt), (filled 5 1 (lit< tt) (lit< tt), tt))
+stood-ok = (filled-ok 7 3 (lit< tt) (lit< tt), (filled-ok 5 1 (lit< tt) (lit< tt), tt))
 
 two : pagesIn stood ≡ 2
 two = pages-in (page 7 (c ∷ []) ∷ page 5 (a ∷ []) ∷ []) stood-ok

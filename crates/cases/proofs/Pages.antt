@@ -1,38 +1,35 @@
 -- Recovery of packed pages with a log of encoded entries: what has to be computed, and what follows.
 -- Assumes nothing.
-use mathlib.Core.Path.{_≡_, refl, sym, ap, ap₂, _∙_, subst}
-use mathlib.Core.Bool.{Bool, true, false}
-use Prim.Native.Nat.{ℕ, zero, suc, _+_, _*_, _/_, _%_, _^_, _≤_, _<_, max}
+use mathlib.Core.Path.{_≡_, refl, sym, ap, ap₂, _∙_}
+use mathlib.Core.Bool.{true, false}
+use Prim.Native.Nat.{ℕ, zero, suc, _+_, _%_, _≤_, _<_, max}
 use native.Mathlib.Omega.{arith}
-use native.Mathlib.Nat.{add-zero, zero-add}
-use mathlib.Core.List.{List, [], _∷_, _++_}
-use lib.ListN.{length, getD, replicate, length-take, length-drop}
-use lib.Dec.{ltb, eqb, eqb·suc-zero}
+use native.Mathlib.Nat.{add-zero}
+use mathlib.Core.List.{List, [], _∷_}
+use lib.ListN.{length, getD, length-take, length-drop}
+use lib.Dec.{ltb, eqb·suc-zero}
 use borrow.Author.Tests.{eq-eqb, lt-ltb, le-ltb}
-use Rattle.endian.specs.Pick.{pick}
-use Rattle.wal.specs.Entry.{Entry, AllEncodable, encodedAll, header, sizesOf}
+use Rattle.wal.specs.Entry.{Entry, AllEncodable, sizesOf}
 use Rattle.wal.specs.Read.{headerFault, readAt, first, logLimit}
 use Rattle.wal.specs.Walk.{entries, endOf}
 use Rattle.wal.specs.declared.Reading.the-variants.{End}
 use Rattle.wal.proofs.Encoding.{entries-log, end-log, header-log, length-log}
 use Rattle.wal.proofs.ReadLaws.{past-end}
-use Rattle.page.specs.Layout.{pageBytes, bodyBytes, dataType, pageLimit, pagesIn, pageAt, typeOf, lsnOf, slotAt}
-use Rattle.page.specs.Packed.{Head, packed, tab, roomFor}
-use Rattle.page.specs.Fault.{verdict, accepted, judged, faultOf, sizeWrong}
+use Rattle.page.specs.Layout.{pageBytes, bodyBytes, pageLimit, pagesIn, pageAt, typeOf, lsnOf, slotAt}
+use Rattle.page.specs.Packed.{packed, tab, roomFor}
+use Rattle.page.specs.Fault.{verdict, accepted, faultOf, sizeWrong}
 use Rattle.page.specs.declared.Verdict.{Verdict}
 use Rattle.page.specs.declared.Fault.the-variants.{Sound}
 use Rattle.page.proofs.FaultLaws.{good-sound}
 use Rattle.rules.specs.Shape.{pageOf as pageNumber}
 use Rattle.rules.specs.Order.{lastLsn, fullAt, orderFrom, endVerdict, logVerdict, _then_}
 use Rattle.rules.specs.Mend.{committed, topOf, decided, slotsFor, headFor, repacked, unless, mendBy, mend}
-use Rattle.rules.specs.Recover.{pagesFrom, strayFrom, isTight, tightFrom, recoverVerdict, mendedFrom, done, Recovered, recoverOf}
+use Rattle.rules.specs.Recover.{pagesFrom, strayFrom, isTight, tightFrom, recoverVerdict, done, Recovered, recoverOf}
 use Rattle.rules.specs.declared.Answer.{Answer}
 use Rattle.rules.specs.declared.Record.{Record}
 use Rattle.rules.proofs.OrderLaws.{Every}
-use Rattle.rules.proofs.Verdicts.{Accepted, Sane, Lent, Roomy, accepted-is, none-stray, all-lent}
-use Rattle.rules.proofs.Mended.{slot-mended, length-mended}
-use Rattle.rules.proofs.Area.{page-mended, page-length}
-use Rattle.rules.proofs.Again.{recover-done, recover-refused}
+use Rattle.rules.proofs.Verdicts.{Accepted, Lent, accepted-is, none-stray, all-lent}
+use Rattle.rules.proofs.Again.{recover-done, recover-refused, page-after as mended-after, slot-after}
 use Rattle.cases.specs.Build.{Page, logOf, magic, pageOf, area}
 use Rattle.cases.proofs.Parts.{on-pages}
 use Rattle.cases.proofs.Area.{PageOk, EachPage, nth, each-nth, size-of, good-of, lsn-of, type-of, count-of, slot-of, pages-in, area-whole, page-at}
@@ -119,21 +116,20 @@ module _ (floor : ℕ) (ps : List Page) (log : List ℕ) (es : List Entry) (T : 
     fits : (i : ℕ) → i < length ps → 0 < topOf i es → roomFor (slotsAfter i (nth ps i) es) ≤ bodyBytes
     fits i l = let e : 0 + i ≡ i = omega arith in rw e at (fit-nth 0 ps es rooms i l)
 
-    accepts : Accepted (fullAt 8) magic floor (area ps) log
+    accepts : Accepted (fullAt (length T)) magic floor (area ps) log
     accepts =
         record {
           size = size-ok;
-          logOk = log-ok;
+          logOk = rw eight log-ok;
           sane = λ i l. let l′ : i < length ps = omega (arith, pages-in ps (x .pages)) in record { sound = sound i l′; lsnKnown = rw (lsn-here i l′, log-is .says) (known i l′) };
           lent = lent;
           roomy = λ i l t. let l′ : i < length ps = omega (arith, pages-in ps (x .pages)) in rw (here i l′, log-is .says, slots-for i l′) (fits i l′ (rw (log-is .says) at t));
         }
 
-    verdict-zero : recoverVerdict (fullAt (length T)) magic floor (area ps) log .number ≡ 0
-    verdict-zero = rw eight (accepted-is (fullAt 8) magic floor (area ps) log accepts)
-
     pub answer : recoverOf magic floor (area ps) log T .answer ≡ done es (endOf log) (length ps)
-    answer = recover-done magic floor (area ps) log T verdict-zero .0 ∙ ap₂ (λ (E : List Entry) (n : ℕ). done E (endOf log) n) (log-is .says) (pages-in ps (x .pages))
+    answer =
+        recover-done magic floor (area ps) log T (accepted-is (fullAt (length T)) magic floor (area ps) log accepts) .0
+        ∙ ap₂ (λ (E : List Entry) (n : ℕ). done E (endOf log) n) (log-is .says) (pages-in ps (x .pages))
 
     pub number : recoverOf magic floor (area ps) log T .answer .number ≡ 0
     unfolding done
@@ -143,23 +139,15 @@ module _ (floor : ℕ) (ps : List Page) (log : List ℕ) (es : List Entry) (T : 
     unfolding done
     place = ap (λ (r : Answer). r .place) answer
 
-    room-here : (i : ℕ) (l : i < length ps) → 0 < topOf i es → roomFor (slotsFor (committed es) es i (pageOf i (nth ps i))) ≤ bodyBytes
-    room-here i l t = rw (slots-for i l) (fits i l t)
-
     pub page-after : (i : ℕ) → i < length ps → pageAt i (recoverOf magic floor (area ps) log T .pages) ≡ mend es i (pageOf i (nth ps i))
-    unfolding mend
     page-after i l =
-        let s : (k : ℕ) → 0 ≤ k → k < 0 + pagesIn (area ps) → length (mend es k (pageAt k (area ps))) ≡ pageBytes =
-        λ k a b. let l′ : k < length ps = omega (arith, pages-in ps (x .pages)) in rw (here k l′) (length-mended (committed es) es k (pageOf k (nth ps k)) (size-of k (nth ps k) (ok k l′)) (room-here k l′)) in
-        ap (pageAt i) (recover-done magic floor (area ps) log T verdict-zero .1 ∙ ap (λ (E : List Entry). mendedFrom E (area ps) (pagesIn (area ps)) 0) (log-is .says))
-        ∙ page-mended es (area ps) (pagesIn (area ps)) 0 i s (omega (arith, pages-in ps (x .pages)))
-        ∙ ap (λ (k : ℕ). mend es k (pageAt k (area ps))) (zero-add i) ∙ ap (mend es i) (here i l)
+        mended-after magic floor (area ps) log T accepts i (omega (arith, pages-in ps (x .pages)))
+        ∙ ap₂ (λ (E : List Entry) (p : List ℕ). mend E i p) (log-is .says) (here i l)
 
     pub slot : (i : ℕ) → i < length ps → (k : ℕ) → slotAt (pageAt i (recoverOf magic floor (area ps) log T .pages)) k ≡ after i (nth ps i) es k
-    unfolding mend
     slot i l k =
-        ap (λ (q : List ℕ). slotAt q k) (page-after i l)
-        ∙ slot-mended (committed es) es i (pageOf i (nth ps i)) (size-of i (nth ps i) (ok i l)) (room-here i l) k
+        slot-after magic floor (area ps) log T accepts i (omega (arith, pages-in ps (x .pages))) k
+        ∙ ap₂ (λ (E : List Entry) (p : List ℕ). decided (committed E) E i k (slotAt p k)) (log-is .says) (here i l)
         ∙ ap (decided (committed es) es i k) (slot-of i (nth ps i) (ok i l) k)
 
     -- a touched page is packed anew

@@ -1,13 +1,13 @@
 -- The starred cases: what is computed of each, and the table.
 -- Assumes nothing.
 use mathlib.Core.Path.{_≡_, refl, sym, ap, _∙_}
-use mathlib.Core.Logic.{_⊎_, inl, inr}
-use Prim.Native.Nat.{ℕ, zero, suc, _≤_, _<_}
+use mathlib.Core.Logic.{_⊎_, inl}
+use Prim.Native.Nat.{ℕ, _≤_, _<_}
 use native.Mathlib.Omega.{arith}
 use mathlib.Core.List.{List, [], _∷_, _++_}
-use lib.ListN.{length, getD, take, replicate}
+use lib.ListN.{length, take, replicate}
 use lib.Dec.{lit<, lit≤}
-use Rattle.endian.specs.Numbers.{Bytes, bytesOf, numberOf, numberAt}
+use Rattle.endian.specs.Numbers.{bytesOf, numberOf, numberAt}
 use Rattle.endian.proofs.Bytes.{bytes-nil}
 use Rattle.wal.specs.Entry.{Entry, encoded, unsealed, header}
 use Rattle.wal.specs.Read.{headerFault, readAt}
@@ -18,7 +18,6 @@ use Rattle.wal.specs.declared.Reading.the-variants.{Whole, End, Torn, Damage}
 use Rattle.wal.proofs.WalkLaws.{none, not-end, not-torn, not-damage}
 use Rattle.page.specs.Layout.{bodyOf, slotOff, freeStartOf, freeEndOf, xmaxOf, deletedOf}
 use Rattle.page.specs.Packed.{body}
-use Rattle.page.specs.Good.{TupleGood}
 use Rattle.page.specs.Fault.{accepted, sizeWrong}
 use Rattle.page.specs.declared.Verdict.{Verdict}
 use Rattle.page.proofs.Fields.{body-back, freeStart-back, freeEnd-back}
@@ -31,28 +30,13 @@ use Rattle.rules.proofs.Again.{recover-done}
 use Rattle.cases.specs.Build.{begins, commits, rollsBack, inserts, deletes, updates, logOf, magic, page, area, tuple}
 use Rattle.cases.specs.Starred.{Meets, run, input, answers, tail, holds, deleted, placed, a, b, c, empty, one, noRecord, Starred}
 use Rattle.cases.proofs.Parts.{tuple-bytes, tuple-length, bare, insertable, deletable, updatable}
-use Rattle.cases.proofs.Area.{PageOk}
+use Rattle.cases.proofs.Area.{PageOk, empty-ok, filled-ok}
 use Rattle.cases.proofs.Pages.{Says, plain, Computes, number, place, slot, packed-after, above, tight, refusal, broken}
 
 -- ---- the pages
 
-empty-ok : PageOk (page 0 [])
-empty-ok = record { small = lit< tt; tuples = λ k. inl refl; bytes = λ k. bytes-nil; room = lit≤ tt }
-
 later-ok : PageOk (page 9 [])
 later-ok = record { small = lit< tt; tuples = λ k. inl refl; bytes = λ k. bytes-nil; room = lit≤ tt }
-
-one-ok : PageOk (page 0 (a ∷ []))
-unfolding numberAt numberOf
-one-ok = record { small = lit< tt; tuples = good; bytes = bytes; room = lit≤ tt }
-  where
-    good : (k : ℕ) → TupleGood (getD (a ∷ []) k [])
-    good zero = inr (lit≤ tt, lit≤ tt)
-    good (suc k) = inl refl
-
-    bytes : (k : ℕ) → Bytes (getD (a ∷ []) k [])
-    bytes zero = tuple-bytes 29 1 (lit< tt)
-    bytes (suc k) = bytes-nil
 
 eight : length (replicate 8 noRecord) ≡ 8
 eight = refl
@@ -77,7 +61,7 @@ committed-row-log = plain _ (bare 1 1 7 (lit< tt) (lit< tt) (lit< tt), (insertab
 
 earlier-commit : Computes (page 0 (a ∷ []) ∷ []) (begins 1 7 ∷ updates 2 7 0 0 a b ∷ commits 3 7 ∷ begins 4 8 ∷ updates 5 8 0 0 b c ∷ [])
 unfolding orderFrom faultAfter isKnown isShaped isBare isImage isKeyed same isChanging inOrder isOpen begun ended clashes sameSlot isOn numberAt numberOf bytesOf
-earlier-commit = record { pages = (one-ok, tt); few = lit≤ tt; order = refl; onPage = (lit< tt, (lit< tt, (lit< tt, (lit< tt, (lit< tt, tt))))) }
+earlier-commit = record { pages = (filled-ok 0 1 (lit< tt) (lit< tt), tt); few = lit≤ tt; order = refl; onPage = (lit< tt, (lit< tt, (lit< tt, (lit< tt, (lit< tt, tt))))) }
 
 earlier-commit-log : Says (logOf (begins 1 7 ∷ updates 2 7 0 0 a b ∷ commits 3 7 ∷ begins 4 8 ∷ updates 5 8 0 0 b c ∷ [])) (begins 1 7 ∷ updates 2 7 0 0 a b ∷ commits 3 7 ∷ begins 4 8 ∷ updates 5 8 0 0 b c ∷ [])
 unfolding bytesOf
@@ -85,7 +69,7 @@ earlier-commit-log = plain _ (bare 1 1 7 (lit< tt) (lit< tt) (lit< tt), (updatab
 
 deleted-row : Computes (page 0 (a ∷ []) ∷ []) (begins 1 8 ∷ updates 2 8 0 0 a b ∷ rollsBack 3 8 ∷ begins 4 9 ∷ deletes 5 9 0 0 a ∷ commits 6 9 ∷ [])
 unfolding orderFrom faultAfter isKnown isShaped isBare isImage isKeyed same isChanging inOrder isOpen begun ended clashes sameSlot isOn numberAt numberOf bytesOf
-deleted-row = record { pages = (one-ok, tt); few = lit≤ tt; order = refl; onPage = (lit< tt, (lit< tt, (lit< tt, (lit< tt, (lit< tt, (lit< tt, tt)))))) }
+deleted-row = record { pages = (filled-ok 0 1 (lit< tt) (lit< tt), tt); few = lit≤ tt; order = refl; onPage = (lit< tt, (lit< tt, (lit< tt, (lit< tt, (lit< tt, (lit< tt, tt)))))) }
 
 deleted-row-log : Says (logOf (begins 1 8 ∷ updates 2 8 0 0 a b ∷ rollsBack 3 8 ∷ begins 4 9 ∷ deletes 5 9 0 0 a ∷ commits 6 9 ∷ [])) (begins 1 8 ∷ updates 2 8 0 0 a b ∷ rollsBack 3 8 ∷ begins 4 9 ∷ deletes 5 9 0 0 a ∷ commits 6 9 ∷ [])
 unfolding bytesOf

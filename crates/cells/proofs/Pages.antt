@@ -1,7 +1,7 @@
 -- What one entry more does to a page's top and last LSN, and the bounds of both. Assumes nothing.
 use Prim.Native.Nat.{ℕ, zero, suc, _+_, _≤_, _<_, max}
 use native.Mathlib.Omega.{arith}
-use mathlib.Core.Path.{_≡_, refl, ap, _∙_}
+use mathlib.Core.Path.{_≡_, ap, _∙_}
 use mathlib.Core.Bool.{Bool, true, false}
 use mathlib.Core.List.{List, [], _∷_, _++_}
 use Rattle.endian.specs.Pick.{pick}
@@ -11,18 +11,14 @@ use Rattle.wal.specs.Entry.{Entry}
 use Rattle.wal.specs.Walk.{entries}
 use Rattle.wal.specs.Prefix.{Met, Stands, said, before, onward}
 use Rattle.wal.proofs.Prefix.{before-first, before-next, met-split, onward-next, Along, start, more, along, stands-at}
-use Rattle.rules.specs.Shape.{both, isOn, slotOf, topOn, lsnOn}
+use Rattle.rules.specs.Shape.{isOn, slotOf, topOn, lsnOn}
 use Rattle.rules.specs.Order.{lastLsn}
 use Rattle.rules.specs.Mend.{topOf, lastOn}
-use Rattle.rules.proofs.OrderLaws.{Every, last-snoc}
+use Rattle.rules.proofs.OrderLaws.{Every, last-snoc, lsn-le}
 use Rattle.rules.proofs.ImageLaws.{InRange}
 use Rattle.rules.proofs.Range.{in-range}
 use Rattle.rules.proofs.Slots.{top-append, last-append}
 use Rattle.cells.specs.Measure.{Sound}
-
-pub never : (b : Bool) → both b false ≡ false
-never true = refl
-never false = refl
 
 -- ---- one entry more
 
@@ -67,14 +63,6 @@ entries-top : (i : ℕ) (es : List Entry) → Every InRange es → topOf i es �
 unfolding topOf
 entries-top i [] h = omega arith
 entries-top i (e ∷ es) h = omega (arith, entry-top i e (h .0), entries-top i es (h .1))
-
-lsn-le : (i : ℕ) (e : Entry) → lsnOn i e ≤ e .lsn
-unfolding lsnOn
-lsn-le i e = go (isOn i e)
-  where
-    go : (b : Bool) → pick b (e .lsn) 0 ≤ e .lsn
-    go true = omega arith
-    go false = omega arith
 
 module _ {s : List ℕ} where
   pub top-le : Bytes s → {p : ℕ} → Met s p → (i : ℕ) → topOf i (before s p) ≤ 65536

@@ -8,16 +8,16 @@ use lib.ListN.{getD}
 use lib.Dec.{ltb, eqb}
 use borrow.Author.Tests.{lt-ltb, le-ltb, le-leb, lt-leb}
 use Rattle.endian.specs.Pick.{pick}
-use Rattle.endian.proofs.Places.{number-take, number-drop, number-byte}
 use Rattle.wal.specs.Entry.{Entry}
 use Rattle.wal.specs.Read.{lengthAt, view}
 use Rattle.wal.specs.Walk.{entries, endOf}
 use Rattle.wal.specs.Prefix.{Stands, said, onward}
 use Rattle.wal.proofs.Places.{size-of}
 use Rattle.wal.proofs.Prefix.{stands-at, onward-first, onward-next, onward-end}
-use Rattle.page.specs.Layout.{pageBytes, dataType, pagesIn, pageAt, typeOf}
+use Rattle.page.specs.Layout.{pageBytes, dataType, pagesIn}
 use Rattle.page.specs.Fault.{verdict, accepted}
 use Rattle.page.specs.declared.Verdict.{Verdict}
+use Rattle.page.proofs.Reading.{type-at}
 use Rattle.rules.specs.Shape.{isChange, pageOf}
 use Rattle.rules.specs.Recover.{isStray, strayFrom}
 
@@ -34,10 +34,7 @@ module _ (pages : List ℕ) (e : Entry) where
 
     pub stray-type : pageOf e < pagesIn pages → isStray pages e ≡ not (eqb (getD pages (pageOf e * pageBytes + 8) 0) dataType)
     unfolding isStray
-    stray-type h =
-        let t : typeOf (pageAt (pageOf e) pages) ≡ getD pages (pageOf e * pageBytes + 8) 0
-        = number-take 1 8 pageBytes _ (omega arith) ∙ number-drop 1 8 (pageOf e * pageBytes) pages ∙ number-byte (pageOf e * pageBytes + 8) pages in
-        rw (change, lt-leb (pagesIn pages) (pageOf e) h, t)
+    stray-type h = rw (change, lt-leb (pagesIn pages) (pageOf e) h, type-at pages (pageOf e))
 
 -- ---- entry by entry
 module _ (pages s : List ℕ) where

@@ -25,6 +25,22 @@ part-take (suc at) w (suc n) (x ∷ l) h = part-take at w n l (omega arith)
 pub part-drop : (at w k : ℕ) (l : List ℕ) → part at w (drop k l) ≡ part (k + at) w l
 part-drop at w k l = ap (take w) (drop-drop at k l)
 
+drop-take : (m n : ℕ) (l : List ℕ) → m ≤ n → drop m (take n l) ≡ take (n - m) (drop m l)
+drop-take zero n l h = let e : n ≡ n - 0 = omega arith in ap (λ (z : ℕ). take z l) e
+drop-take (suc m) zero l h = absurd (omega arith)
+drop-take (suc m) (suc n) [] h = sym (none (suc n - suc m))
+  where
+    none : (n : ℕ) → take {A = ℕ} n [] ≡ []
+    none zero = refl
+    none (suc n) = refl
+drop-take (suc m) (suc n) (x ∷ l) h =
+    let e : n - m ≡ suc n - suc m = omega arith in
+    drop-take m n l (omega arith) ∙ ap (λ (z : ℕ). take z (drop m l)) e
+
+-- a part without its first bytes
+pub drop-part : (m a n : ℕ) (s : List ℕ) → m ≤ n → drop m (part a n s) ≡ part (a + m) (n - m) s
+drop-part m a n s h = drop-take m n (drop a s) h ∙ ap (take (n - m)) (drop-drop m a s)
+
 pub part-append : (at w : ℕ) (a b : List ℕ) → at + w ≤ length a → part at w (a ++ b) ≡ part at w a
 part-append at w a b h =
     let e : take (at + w) (a ++ b) ≡ take (at + w) a = take-append-le (at + w) a b h in

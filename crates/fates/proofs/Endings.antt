@@ -14,11 +14,11 @@ use Rattle.wal.specs.Walk.{entries, endOf}
 use Rattle.wal.specs.Prefix.{entryIn, said, Stands, Met, before, onward}
 use Rattle.wal.specs.declared.EntryView.{EntryView}
 use Rattle.wal.proofs.Prefix.{met-split, onward-next, onward-end}
-use Rattle.rules.specs.Shape.{both, either}
+use Rattle.rules.specs.Shape.{either}
 use Rattle.rules.specs.Order.{any, is, ended}
 use Rattle.rules.specs.Mend.{committed}
 use Rattle.rules.specs.Recover.{outcomeOf}
-use Rattle.rules.proofs.Tests.{both-true, either-false}
+use Rattle.rules.proofs.Tests.{both-true, both-none, either-false}
 use Rattle.rules.proofs.OrderLaws.{InTurn}
 use Rattle.order.specs.State.{stateAfter, stateOf}
 use Rattle.order.proofs.States.{state-snoc}
@@ -37,11 +37,7 @@ any-append f (e ∷ es) fs = rw (any-append f es fs) (go (f e))
 
 -- an entry of another transaction is none of t
 pub of-other : (k t : ℕ) (e : Entry) → eqb (e .txn) t ≡ false → is k t e ≡ false
-of-other k t e h = rw h (go (eqb (e .kind) k))
-  where
-    go : (b : Bool) → both b false ≡ false
-    go true = refl
-    go false = refl
+of-other k t e h = rw h (both-none (eqb (e .kind) k))
 
 -- ---- no entry follows the ending
 

@@ -1,14 +1,14 @@
 -- The images of the change at a place of the log stand in the log. Assumes nothing.
-use Prim.Native.Nat.{ℕ, zero, suc, _+_, _-_, _≤_}
-use mathlib.Core.Path.{_≡_, refl, sym, ap, subst, _∙_}
+use Prim.Native.Nat.{ℕ, _+_, _-_, _≤_}
+use mathlib.Core.Path.{_≡_, sym, ap, subst, _∙_}
 use mathlib.Core.Bool.{true}
-use mathlib.Core.List.{List, [], _∷_}
+use mathlib.Core.List.{List, []}
 use native.Mathlib.Omega.{arith}
 use lib.ListN.{length, take, drop, length-drop}
-use lib.Seq.{drop-drop}
 use lib.Dec.{eqb}
 use borrow.Author.Tests.{eqb-true, ne-eqb}
 use Rattle.endian.specs.Numbers.{part}
+use Rattle.endian.proofs.Places.{drop-part}
 use Rattle.wal.specs.Entry.{Entry, insert, delete, update, keyPart, oldPart, newPart, entryOf}
 use Rattle.wal.specs.Prefix.{Stands, entryIn, said}
 use Rattle.wal.specs.declared.EntryView.{EntryView}
@@ -27,22 +27,6 @@ use Rattle.images.proofs.Standing.{in-log, in-log-deleted}
 pub third : (e : Entry) → isChange e ≡ true → (e .kind ≡ insert → ⊥) → (e .kind ≡ delete → ⊥) → e .kind ≡ update
 unfolding isChanging
 third e h a b = eqb-true (e .kind) update (rw (ne-eqb (e .kind) insert a, ne-eqb (e .kind) delete b) at h)
-
--- a part without its first bytes
-drop-take : (m n : ℕ) (l : List ℕ) → m ≤ n → drop m (take n l) ≡ take (n - m) (drop m l)
-drop-take zero n l h = let e : n ≡ n - 0 = omega arith in ap (λ (z : ℕ). take z l) e
-drop-take (suc m) zero l h = absurd (omega arith)
-drop-take (suc m) (suc n) [] h = sym (none (suc n - suc m))
-  where
-    none : (n : ℕ) → take {A = ℕ} n [] ≡ []
-    none zero = refl
-    none (suc n) = refl
-drop-take (suc m) (suc n) (x ∷ l) h =
-    let e : n - m ≡ suc n - suc m = omega arith in
-    drop-take m n l (omega arith) ∙ ap (λ (z : ℕ). take z (drop m l)) e
-
-pub drop-part : (m a n : ℕ) (s : List ℕ) → m ≤ n → drop m (part a n s) ≡ part (a + m) (n - m) s
-drop-part m a n s h = drop-take m n (drop a s) h ∙ ap (take (n - m)) (drop-drop m a s)
 
 -- a value that begins with a key has a tuple behind it
 record Keyed (v : List ℕ) : Type 0 where

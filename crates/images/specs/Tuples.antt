@@ -9,12 +9,13 @@ use Rattle.endian.specs.Numbers.{part}
 use Rattle.rules.specs.Shape.{stamped}
 use Rattle.images.specs.declared.Image.{Image}
 
--- the bytes of an image in a log s, or else in a page p, before they are stamped
-abbrev pub bare : List ℕ → List ℕ → Image → List ℕ
-bare s p m = part (m .place) (m .length) (pick (m .logged) s p)
+-- the bytes that an image names in its source, stamped where they are to be
+abbrev pub tupleAt : List ℕ → Image → List ℕ
+tupleAt source m = pick (m .stamped) (stamped (m .by .0) (part (m .place) (m .length) source)) (part (m .place) (m .length) source)
 
+-- its source is a log s, or else a page p
 unfoldable pub tupleIn : List ℕ → List ℕ → Image → List ℕ
-tupleIn s p m = pick (m .stamped) (stamped (m .by .0) (bare s p m)) (bare s p m)
+tupleIn s p m = tupleAt (pick (m .logged) s p) m
 
 -- the image lies in the log or in the page; what is stamped has a row header
 pub record Lies (s p : List ℕ) (m : Image) : Type 0 where

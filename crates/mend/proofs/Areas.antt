@@ -6,11 +6,12 @@ use Prim.Native.Nat.{ℕ, zero, suc, _+_, _-_, _*_, _≤_}
 use native.Mathlib.Nat.{zero-add, add-zero, suc-add}
 use native.Mathlib.Omega.{arith}
 use mathlib.Core.List.{List, [], _++_, append-assoc, append-nil}
-use lib.ListN.{length, take, drop, length-append, length-drop, take-append-drop}
-use lib.Seq.{paste, take-at, drop-at, drop-drop, length-take-le}
+use lib.ListN.{length, take, drop, length-append, take-append-drop}
+use lib.Seq.{paste, take-at, drop-at, drop-drop}
 use Rattle.wal.specs.Entry.{Entry}
 use Rattle.page.specs.Layout.{pageBytes, pageAt}
 use Rattle.page.proofs.Writing.{paste-at}
+use Rattle.page.proofs.Verdicts.{page-length}
 use Rattle.rules.specs.Order.{one}
 use Rattle.rules.specs.Mend.{mend}
 use Rattle.rules.specs.Recover.{isTouched, mendedFrom, touchedFrom}
@@ -86,7 +87,7 @@ module _ {d : List ℕ} {i : ℕ} {p w : List ℕ} (f : Fronted d i p w) where
   front-page m v r l e =
       let a : ℕ = i * pageBytes in
       let z : (i + 1) * pageBytes ≡ a + pageBytes = omega arith in
-      let own : length (pageAt i d) ≡ pageBytes = length-take-le pageBytes (drop a d) (simp length-drop (omega arith)) in
+      let own : length (pageAt i d) ≡ pageBytes = page-length d i (omega arith) in
       let s : w ≡ p ++ (pageAt i d ++ drop (a + pageBytes) d) = f .is ∙ ap (_++_ p) (sym (take-append-drop pageBytes (drop a d)) ∙ ap (_++_ (pageAt i d)) (drop-drop pageBytes a d)) in
       record {
         long = omega (arith, length-append p m, f .long);

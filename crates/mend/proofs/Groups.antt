@@ -4,53 +4,32 @@ use mathlib.Core.Path.{_≡_, refl, sym, ap, ap₂, _∙_}
 use Prim.Native.Nat.{ℕ, _+_, _-_, _*_, _≤_, _<_}
 use native.Mathlib.Omega.{arith}
 use mathlib.Core.List.{List, [], _++_, append-assoc, append-nil}
-use lib.ListN.{length, take, drop, getD, length-drop, take-append-drop, drop-of-length-le}
+use lib.ListN.{length, take, drop, getD, take-append-drop, drop-of-length-le}
 use lib.Seq.{paste, length-take-le}
-use Rattle.endian.specs.Numbers.{Bytes}
 use Rattle.wal.specs.Walk.{entries, endOf}
-use Rattle.wal.proofs.Prefix.{met-end, before-end}
+use Rattle.wal.proofs.Prefix.{before-end}
 use Rattle.page.specs.Layout.{pageBytes, pageAt}
+use Rattle.page.proofs.Verdicts.{page-length}
 use Rattle.rules.specs.Order.{one}
 use Rattle.rules.specs.Mend.{committed, topOf, mend}
 use Rattle.rules.specs.Recover.{isTouched, mendedFrom, touchedFrom}
 use Rattle.rules.proofs.Mended as mended
 use Rattle.rules.proofs.Area as area
-use Rattle.cells.specs.Cell.{startOf, Starts, Cells}
 use Rattle.cells.specs.Measure.{LastAt, Lasts}
-use Rattle.cells.proofs.CellLaws.{start-rises}
-use Rattle.cells.proofs.Pages.{top-le}
-use Rattle.decide.specs.Decide.{Decided}
-use Rattle.images.specs.Page.{PageCells, Touched, Fitting}
+use Rattle.images.specs.Page.{Touched, Fitting}
 use Rattle.mend.proofs.Areas.{Fronted, mended-append, mended-next, touched-append, touched-next, page-behind, front-page, front-pages}
 
 -- ---- what the group's arrays tell of one of its pages
 
-pub page-cells : {s : List ℕ} {n lo hi : ℕ} {starts cells : List ℕ} → Starts (entries s) n starts → Cells (entries s) lo hi (Decided s) cells → n ≤ 4096 → hi ≤ n
-    → startOf (entries s) hi - startOf (entries s) lo ≤ 131072 → {i : ℕ} → lo ≤ i → i < hi → PageCells s lo i starts cells
-page-cells {s} {lo = lo} {hi = hi} t c most within fits {i} low high =
-    record {
-      base = t .at lo (omega arith);
-      start = t .at i (omega arith);
-      next = t .at (i + 1) (omega arith);
-      from = low;
-      few = omega arith;
-      fits = omega (arith, start-rises (entries s) (i + 1) hi (omega arith));
-      is = λ k h. c .at i k low high h;
-    }
-
 pub last-known : {s : List ℕ} {n : ℕ} {lasts : List ℕ} → Lasts s (endOf s) n lasts → {i : ℕ} → i < n → 0 < topOf i (entries s) → LastAt s (endOf s) i (getD lasts i 0)
 last-known {s} l {i} h t = l .some i h (rw (before-end s) t)
-
--- cells of a page are few
-pub few-cells : {s : List ℕ} → Bytes s → (i : ℕ) → topOf i (entries s) ≤ 65536
-few-cells {s} b i = omega (arith, top-le b (met-end s) i, ap (topOf i) (before-end s))
 
 -- a mended page has all its bytes
 module _ {s d : List ℕ} {lo hi : ℕ} (f : Fitting s d lo hi) where
   pub page-long : (i : ℕ) → lo ≤ i → i < hi → i * pageBytes + pageBytes ≤ length d → length (mend (entries s) i (pageAt i d)) ≡ pageBytes
   unfolding mend
   page-long i low high room =
-      mended.length-mended (committed (entries s)) (entries s) i (pageAt i d) (length-take-le pageBytes (drop (i * pageBytes) d) (simp length-drop (omega arith))) (f .at i low high)
+      mended.length-mended (committed (entries s)) (entries s) i (pageAt i d) (page-length d i (omega arith)) (f .at i low high)
 
   pub pages-long : lo ≤ hi → hi * pageBytes ≤ length d → length (mendedFrom (entries s) d (hi - lo) lo) ≡ (hi - lo) * pageBytes
   pages-long low room = area.length-mended (entries s) d (hi - lo) lo (λ k a b. page-long k a (omega arith) (omega arith))

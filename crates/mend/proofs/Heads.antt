@@ -1,11 +1,9 @@
--- What the cells' array tells of a page, and the working page under its header.
+-- The working page under its header.
 -- Assumes nothing.
-use mathlib.Core.Path.{_≡_, sym, ap, ap₂, _∙_}
+use mathlib.Core.Path.{_≡_, ap, ap₂, _∙_}
 use Prim.Native.Nat.{ℕ, _+_, _-_, max}
-use native.Mathlib.Numerals.{add-one}
-use native.Mathlib.Omega.{arith}
 use mathlib.Core.List.{List}
-use lib.ListN.{length, getD}
+use lib.ListN.{length}
 use Rattle.endian.specs.Numbers.{numberAt}
 use Rattle.wal.specs.Walk.{entries, endOf}
 use Rattle.wal.proofs.Prefix.{before-end}
@@ -15,19 +13,8 @@ use Rattle.page.specs.Writer.{headOf, sealed}
 use Rattle.page.specs.declared.PageHead.{PageHead}
 use Rattle.page.proofs.Packing.{packing-sealed}
 use Rattle.rules.specs.Mend.{committed, topOf, lastOn, headFor, repacked}
-use Rattle.cells.specs.Cell.{startOf}
 use Rattle.cells.specs.Measure.{LastAt}
-use Rattle.cells.proofs.CellLaws.{start-next}
-use Rattle.images.specs.Page.{PageCells}
 use Rattle.mend.proofs.Filling.{wanted, allWanted, wanted-all}
-
-module _ {s : List ℕ} {lo i : ℕ} {starts cells : List ℕ} (k : PageCells s lo i starts cells) where
-  -- the cells of the page
-  pub cells-of : getD starts (i + 1) 0 ≡ getD starts i 0 + topOf i (entries s)
-  cells-of = k .next ∙ ap (startOf (entries s)) (add-one i) ∙ start-next (entries s) i ∙ ap (λ (n : ℕ). n + topOf i (entries s)) (sym (k .start))
-
-  pub slots-for-page : {n : ℕ} (p : List ℕ) → n ≡ max (countOf p) (getD starts (i + 1) 0 - getD starts i 0) → n ≡ max (countOf p) (topOf i (entries s))
-  slots-for-page p e = let z : getD starts (i + 1) 0 - getD starts i 0 ≡ topOf i (entries s) = omega (arith, cells-of) in e ∙ ap (max (countOf p)) z
 
 -- the header that the page is to have
 pub record HeadIs (h : PageHead) (s p : List ℕ) (last : ℕ) : Type 0 where

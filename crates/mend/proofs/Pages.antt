@@ -14,7 +14,7 @@ use Rattle.rules.specs.Order.{one}
 use Rattle.rules.specs.Mend.{committed, topOf, repacked, unless, mendBy, mend}
 use Rattle.rules.specs.Recover.{isTouched}
 use Rattle.images.specs.Page.{PageCells}
-use Rattle.mend.proofs.Heads.{cells-of}
+use Rattle.images.proofs.Deciding.{next-start}
 
 -- a part, stored where it stands
 paste-own : (d : List ℕ) (a n : ℕ) → paste d a (take n (drop a d)) n ≡ d
@@ -49,7 +49,7 @@ module _ (es : List Entry) (i : ℕ) where
 -- whether the page is touched, as code tests it
 module _ {s : List ℕ} {lo i : ℕ} {starts cells : List ℕ} (k : PageCells s lo i starts cells) where
   pub no-cells : getD starts i 0 ≡ getD starts (i + 1) 0 → topOf i (entries s) ≡ 0
-  no-cells e = omega (arith, cells-of k)
+  no-cells e = omega (arith, next-start k)
 
   pub some-cells : (getD starts i 0 ≡ getD starts (i + 1) 0 → ⊥) → 0 < topOf i (entries s)
-  some-cells e = omega (arith, cells-of k)
+  some-cells e = omega (arith, next-start k)

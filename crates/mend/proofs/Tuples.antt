@@ -13,7 +13,7 @@ use Rattle.page.specs.Layout.{pageBytes, bodyBytes, headBytes}
 use Rattle.page.specs.Writer.{withSlot}
 use Rattle.rules.specs.Shape.{stamped}
 use Rattle.rules.proofs.Tests.{false-true}
-use Rattle.images.specs.Tuples.{bare, tupleIn, Lies}
+use Rattle.images.specs.Tuples.{tupleIn, Lies}
 use Rattle.images.specs.declared.Image.{Image}
 use Rattle.mend.proofs.Stamping.{stamped-slot}
 
@@ -44,9 +44,9 @@ module _ {s p : List ℕ} {m : Image} (l : Lies s p m) where
     unfolding tupleIn
     page-tuple = go (m .stamped) refl
       where
-        go : (b : Bool) → m .stamped ≡ b → cut p m ≡ pick b (stamped (m .by .0) (bare s p m)) (bare s p m)
+        go : (b : Bool) → m .stamped ≡ b → cut p m ≡ tupleIn s p m
         go true h = false-true (sym out ∙ l .headed h .0)
-        go false h = rw out (cut-is p m)
+        go false h = rw (h, out) (cut-is p m)
 
   -- in the log
   module _ (within : m .logged ≡ true) where

@@ -23,16 +23,13 @@ use Rattle.page.specs.Fault.{verdict, accepted}
 use Rattle.page.specs.declared.Verdict.{Verdict}
 use Rattle.rules.specs.Order.{one, count, isBegin, lastLsn, orElse, endVerdict, _then_}
 use Rattle.rules.proofs.OrderLaws.{last-snoc}
+use Rattle.rules.proofs.Counts.{count-snoc}
 use Rattle.order.specs.State.{stateOf, basicAfter, basicFault, basicFrom}
 use Rattle.order.specs.Clash.{passed}
 use Rattle.order.specs.Hints.{Hints, Highs, raised}
 use Rattle.order.specs.First.{told, endNumber, FirstWalk}
 use Rattle.order.specs.Walking.{Walking}
 use Rattle.order.proofs.HintLaws.{hints-first, highs-first, highs-next}
-
-count-snoc : (f : Entry → Bool) (es : List Entry) (e : Entry) → count f (es ++ (e ∷ [])) ≡ count f es + one (f e)
-count-snoc f [] e = omega arith
-count-snoc f (d ∷ es) e = omega (arith, count-snoc f es e)
 
 -- what stands in the walk's answer
 told-more : (n at : ℕ) → told (suc n) at ≡ verdict (suc n) at

@@ -10,14 +10,14 @@ use lib.Seq.{drop-drop, take-take, take-add}
 use lib.Dec.{leb, eqb, eqb·suc-zero}
 use borrow.Author.Tests.{eqb-true, eq-eqb, ne-eqb, lt-leb, le-leb}
 use Rattle.endian.specs.Numbers.{part, numberOf, numberAt, Bytes}
-use Rattle.endian.proofs.Places.{number-byte, number-take, number-drop, part-take, part-drop}
+use Rattle.endian.proofs.Places.{part-take, part-drop, drop-part}
 use Rattle.endian.proofs.Bytes.{bytes-take, bytes-drop}
 use Rattle.crc32c.proofs.Lanes.{part-length}
 use Rattle.wal.specs.Entry.{keyPart, oldPart, newPart, entryOf, insert, delete, update, checkpoint}
 use Rattle.wal.specs.declared.EntryView.{EntryView}
 use Rattle.wal.proofs.WalkLaws.{EntryAt}
 use Rattle.wal.proofs.Places.{key-length, old-length, new-length}
-use Rattle.page.specs.Layout.{deletedOf}
+use Rattle.page.proofs.Reading.{deleted-in}
 use Rattle.rules.specs.Shape.{both, isImage, isNone, isKeyed, isBare, isShaped, same}
 use Rattle.rules.proofs.Tests.{false-true, both-true}
 
@@ -26,9 +26,6 @@ not-false true h = refl
 not-false false h = sym h
 
 -- ---- equal bytes
-
-tail : {x : ℕ} {l : List ℕ} → Bytes (x ∷ l) → Bytes l
-tail h = bytes-drop 1 h
 
 -- a list of bytes is told by its number and its length
 number-tells : (l m : List ℕ) → Bytes l → Bytes m → length l ≡ length m → numberOf l ≡ numberOf m → l ≡ m
@@ -41,7 +38,7 @@ number-tells (x ∷ l) (y ∷ m) h k e q =
     let b : y < 256 = k .at 0 in
     let front : x ≡ y = omega arith in
     let rest : numberOf l ≡ numberOf m = omega arith in
-    ap₂ (λ (z : ℕ) (n : List ℕ). z ∷ n) front (number-tells l m (tail h) (tail k) (omega arith) rest)
+    ap₂ (λ (z : ℕ) (n : List ℕ). z ∷ n) front (number-tells l m (bytes-drop 1 h) (bytes-drop 1 k) (omega arith) rest)
 
 same-refl : (l : List ℕ) → same l l ≡ true
 unfolding same
@@ -114,9 +111,7 @@ module _ (s : List ℕ) (a n : ℕ) (room : a + n ≤ length s) where
 
   pub image-is : 24 ≤ n → n ≤ 16316 → isImage (part a n s) ≡ leb (getD s (a + 16) 0) 1
   unfolding isImage
-  image-is h k =
-      let d : deletedOf (part a n s) ≡ getD s (a + 16) 0 = number-take 1 16 n (drop a s) (omega arith) ∙ number-drop 1 16 a s ∙ number-byte (a + 16) s in
-      rw (part-length s a n room, le-leb 24 n h, le-leb n 16316 k, d)
+  image-is h k = rw (part-length s a n room, le-leb 24 n h, le-leb n 16316 k, deleted-in s a n h)
 
   -- after the key again
   pub keyed-short : (k : ℕ) → k + 10 ≤ length s → n < 10 → isKeyed (part k 10 s) (part a n s) ≡ false
@@ -137,20 +132,7 @@ module _ (s : List ℕ) (a n : ℕ) (room : a + n ≤ length s) where
   unfolding isKeyed
   keyed-is k h =
       let f : take 10 (part a n s) ≡ part a 10 s = take-take 10 n (drop a s) h in
-      let g : drop 10 (part a n s) ≡ part (a + 10) (n - 10) s = drop-take 10 n (drop a s) h ∙ ap (take (n - 10)) (drop-drop 10 a s) in
-      rw (f, g)
-    where
-      none : (n : ℕ) → take {A = ℕ} n [] ≡ []
-      none zero = refl
-      none (suc n) = refl
-
-      drop-take : (m w : ℕ) (l : List ℕ) → m ≤ w → drop m (take w l) ≡ take (w - m) (drop m l)
-      drop-take zero w l h = let e : w ≡ w - 0 = omega arith in ap (λ (z : ℕ). take z l) e
-      drop-take (suc m) zero l h = absurd (omega arith)
-      drop-take (suc m) (suc w) [] h = sym (none (suc w - suc m))
-      drop-take (suc m) (suc w) (x ∷ l) h =
-          let e : w - m ≡ suc w - suc m = omega arith in
-          drop-take m w l (omega arith) ∙ ap (λ (z : ℕ). take z (drop m l)) e
+      rw (f, drop-part 10 a n s h)
 
 -- an update's two values
 module _ (s : List ℕ) (key k a o : ℕ) (e : k ≡ 10) where

@@ -12,7 +12,7 @@ use Rattle.wal.specs.Entry.{Entry, sizeOf, begin, insert, delete, update}
 use Rattle.page.specs.declared.Verdict.{Verdict}
 use Rattle.rules.specs.Shape.{both, either, isKnown, isChanging, isShaped, isOn, pageOf, sameSlot}
 use Rattle.rules.specs.Order.{any, count, isBegin, lastLsn, inOrder, clashes, faultAfter, orElse, orderFrom, _then_}
-use Rattle.rules.proofs.Tests.{into, past, both-true}
+use Rattle.rules.proofs.Tests.{into, past, both-true, both-none}
 use Rattle.order.specs.State.{stateOf, ordered, basicFault, basicAfter, basicFrom}
 use Rattle.order.specs.Clash.{clashAfter, clashFrom, passed}
 use Rattle.order.proofs.States.{Told, told-none, told-snoc, ordered-is}
@@ -25,11 +25,7 @@ begin-clear es [] e h = refl
 begin-clear es (f ∷ fs) e h =
     let k : e .kind ≡ begin = eqb-true _ _ h in
     let c : either (eqb (e .kind) insert) (either (eqb (e .kind) delete) (eqb (e .kind) update)) ≡ false = rw k in
-    rw (c, never (isOn (pageOf e) f)) (begin-clear es fs e h)
-  where
-    never : (b : Bool) → both b false ≡ false
-    never true = refl
-    never false = refl
+    rw (c, both-none (isOn (pageOf e) f)) (begin-clear es fs e h)
 
 module _ (full : ℕ → Bool) (es : List Entry) (e : Entry) (told : (t : ℕ) → (t ≡ 0 → ⊥) → Told es t) where
   -- a fault of another rule is the fault

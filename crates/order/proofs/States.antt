@@ -10,8 +10,8 @@ use borrow.Author.Tests.{eqb-true, eqb-false, eq-eqb, ne-eqb}
 use Rattle.endian.specs.Pick.{pick}
 use Rattle.wal.specs.Entry.{Entry, begin, commit, rollback, checkpoint}
 use Rattle.rules.specs.Shape.{both, either, isChange, isShaped, isBare}
-use Rattle.rules.specs.Order.{any, is, isBegin, begun, ended, isOpen, inOrder}
-use Rattle.rules.proofs.Tests.{both-true}
+use Rattle.rules.specs.Order.{one, count, any, is, isBegin, begun, ended, isOpen, inOrder}
+use Rattle.rules.proofs.Tests.{both-true, either-none}
 use Rattle.order.specs.State.{stateAfter, stateFrom, stateOf, mayFollow, ordered}
 
 -- ---- one entry more
@@ -25,12 +25,24 @@ pub state-snoc : (t : ℕ) (es : List Entry) (e : Entry) → stateOf t (es ++ (e
 unfolding stateFrom
 state-snoc t es e = state-append t 0 es (e ∷ [])
 
-any-snoc : (f : Entry → Bool) (es : List Entry) (e : Entry) → any f (es ++ (e ∷ [])) ≡ either (any f es) (f e)
-any-snoc f [] e = go (f e)
+-- a change of transaction t
+abbrev pub changing : ℕ → Entry → Bool
+changing t f = both (isChange f) (eqb (f .txn) t)
+
+-- a transaction that has not begun has no change
+pub none-changed : (t s : ℕ) (es : List Entry) → stateFrom t s es ≡ 0 → (s ≡ 0) × (count (changing t) es ≡ 0)
+unfolding stateFrom stateAfter
+none-changed t s [] h = (h, refl)
+none-changed t s (e ∷ es) h = go (eqb (e .txn) t) (either (eqb (e .kind) commit) (eqb (e .kind) rollback)) (isChange e) (none-changed t _ es h)
   where
-    go : (b : Bool) → either b false ≡ b
-    go true = refl
-    go false = refl
+    go : (w b c : Bool) → (pick w (pick b 2 1) s ≡ 0) × (count (changing t) es ≡ 0) → (s ≡ 0) × (one (both c w) + count (changing t) es ≡ 0)
+    go true true c k = absurd (omega arith)
+    go true false c k = absurd (omega arith)
+    go false b true k = (k .0, omega arith)
+    go false b false k = (k .0, omega arith)
+
+any-snoc : (f : Entry → Bool) (es : List Entry) (e : Entry) → any f (es ++ (e ∷ [])) ≡ either (any f es) (f e)
+any-snoc f [] e = either-none (f e)
 any-snoc f (d ∷ es) e = rw (any-snoc f es e) (go (f d))
   where
     go : (b : Bool) → either b (either (any f es) (f e)) ≡ either (either b (any f es)) (f e)

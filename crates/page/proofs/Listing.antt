@@ -12,9 +12,9 @@ use lib.Dec.{eqb}
 use borrow.Author.Tests.{lt-ltb, le-ltb, le-leb, lt-leb, eq-eqb, ne-eqb}
 use types.Run.{OneOf, miss}
 use denote.Enum.Declared.{tagOf}
-use Rattle.endian.specs.Pick.{pick}
+use Rattle.endian.specs.Pick.{pick, consIf}
 use Rattle.page.specs.Layout.{dataType, pageAt, typeOf, countOf, slotAt}
-use Rattle.page.specs.Rows.{visible, row, slotRows, pageRows, rowsFrom, visibleRows, atOrAfter, firstAt, nextRow, consIf}
+use Rattle.page.specs.Rows.{visible, row, slotRows, pageRows, rowsFrom, visibleRows, atOrAfter, firstAt, nextRow}
 use Rattle.page.specs.Fault.{verdictOf}
 use Rattle.page.specs.declared.Row.{Row}
 use Rattle.page.specs.declared.NextRow.{NextRow}

@@ -13,11 +13,11 @@ use lib.Seq.{drop-cons, set-at, append-snoc}
 use lib.Pow.{pow-mono}
 use borrow.Author.Tests.{lt-ltb, le-ltb, eq-eqb, ne-eqb}
 use Rattle.endian.specs.Pick.{pick}
-use Rattle.endian.proofs.Places.{number-byte, number-take, number-drop}
 use Rattle.page.specs.Layout.{pageBytes, freeType, pagesIn, pageAt, typeOf}
 use Rattle.page.specs.Fault.{verdict, verdictOf}
 use Rattle.page.specs.declared.Verdict.{Verdict}
 use Rattle.page.specs.FreeMap.{freeBit, bits, mapBytes, mapLength, freePages, mapVerdict, mapAfter, freeCount}
+use Rattle.page.proofs.Reading.{type-at}
 
 -- ---- a page's bit
 
@@ -27,16 +27,13 @@ module _ (s : List ℕ) (i : ℕ) where
   bit-past l = simp (le-ltb _ _ l)
 
   module _ (l : i < pagesIn s) where
-    type-at : typeOf (pageAt i s) ≡ getD s (i * pageBytes + 8) 0
-    type-at = number-take 1 8 pageBytes (drop (i * pageBytes) s) (omega arith) ∙ number-drop 1 8 (i * pageBytes) s ∙ number-byte (i * pageBytes + 8) s
-
     pub bit-free : getD s (i * pageBytes + 8) 0 ≡ freeType → 1 ≡ freeBit s i
     unfolding freeBit
-    bit-free e = simp (lt-ltb _ _ l, eq-eqb _ _ (type-at ∙ e))
+    bit-free e = simp (lt-ltb _ _ l, eq-eqb _ _ (type-at s i ∙ e))
 
     pub bit-other : (getD s (i * pageBytes + 8) 0 ≡ freeType → ⊥) → 0 ≡ freeBit s i
     unfolding freeBit
-    bit-other h = simp (lt-ltb _ _ l, ne-eqb _ _ (λ e. h (sym type-at ∙ e)))
+    bit-other h = simp (lt-ltb _ _ l, ne-eqb _ _ (λ e. h (sym (type-at s i) ∙ e)))
 
 module _ (s : List ℕ) where
   bit-small : (i : ℕ) → freeBit s i ≤ 1

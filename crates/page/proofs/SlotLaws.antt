@@ -131,6 +131,10 @@ module _ (b : List ℕ) (k : ℕ) where
   none-earlier zero h = refl
   none-earlier (suc n) h = rw (h n (omega arith)) (none-earlier n (λ j l. h j (omega arith)))
 
+  -- a slot of no bytes shares none
+  pub earlier-empty : slotLen b k ≡ 0 → (n : ℕ) → sharesEarlier b k n ≡ false
+  earlier-empty e n = none-earlier n (λ j l. apart-share b j k (λ i x y. omega arith))
+
   pub earlier-more : (n : ℕ) → sharesEarlier b k n ≡ false → share b n k ≡ false → sharesEarlier b k (n + 1) ≡ false
   unfolding sharesEarlier
   earlier-more n h e = rw (add-one n, e) h
@@ -169,11 +173,11 @@ module _ (b : List ℕ) (end : ℕ) where
   slots-start n = let z : n - 0 ≡ n = omega arith in rw z
 
   -- slot k of n: the search goes on behind it, or ends there
-  pub slots-next : (n k : ℕ) → k < n → slotFaulty b end k ≡ false → slotsFault b end (n - k) k ≡ slotsFault b end (n - (k + 1)) (k + 1)
+  pub slots-next : (n k : ℕ) → k < n → fine b end k ≡ true → sharesEarlier b k k ≡ false → slotsFault b end (n - (k + 1)) (k + 1) ≡ slotsFault b end (n - k) k
   unfolding slotsFault
-  slots-next n k l e =
+  slots-next n k l f e =
       let z : n - k ≡ suc (n - (k + 1)) = omega arith in
-      rw (z, e, add-one)
+      rw (z, faulty-not b end k f e, add-one)
 
   pub slots-hit : (n k : ℕ) → k < n → slotFaulty b end k ≡ true → slotsFault b end (n - k) k ≡ Slot k
   unfolding slotsFault
@@ -229,7 +233,7 @@ module _ (b : List ℕ) (end count : ℕ) where
                 | yes m ↦ let z : j ≡ k = omega arith in h i (rw z at x)
                 | no m ↦ omega (arith, d .behind j i (omega arith) x)
               ];
-          rest = sym (slots-next b end count k more (faulty-not b end k f (none-earlier b k k apart))) ∙ d .rest;
+          rest = slots-next b end count k more f (none-earlier b k k apart) ∙ d .rest;
         }
 
     module _ (o n : ℕ) (eo : o ≡ slotOff b k) (en : n ≡ slotLen b k) where

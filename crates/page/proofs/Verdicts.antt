@@ -10,7 +10,8 @@ use native.Mathlib.Omega.{arith}
 use mathlib.Core.List.{List, [], _∷_}
 use lib.ListN.{length, take, drop, length-drop}
 use lib.Seq.{length-take-le}
-use borrow.Author.Tests.{lt-ltb, le-ltb, eq-eqb, ne-eqb, ltb-false, eqb-true}
+use lib.Dec.{ltb}
+use borrow.Author.Tests.{le-ltb, eq-eqb, ne-eqb, ltb-false, eqb-true}
 use types.Run.{OneOf, miss}
 use denote.Enum.Declared.{tagOf}
 use Rattle.endian.specs.Pick.{pick}
@@ -84,6 +85,15 @@ module _ (s : List ℕ) where
   unfolding sizeWrong
   right-size e = let p = cleared _ _ e in (eqb-true _ _ (p .0), ltb-false _ _ (p .1))
 
+  -- as code tests it
+  pub size-rest : (length s % pageBytes ≡ 0 → ⊥) → true ≡ sizeWrong s
+  unfolding sizeWrong
+  size-rest h = sym (rw (ne-eqb _ 0 h))
+
+  pub size-many : length s % pageBytes ≡ 0 → ltb pageLimit (pagesIn s) ≡ sizeWrong s
+  unfolding sizeWrong
+  size-many h = sym (rw (eq-eqb _ 0 h))
+
 -- ---- what it finds
 
 abbrev pub AllGood : ℕ → List ℕ → Type 0
@@ -133,17 +143,13 @@ module _ (magic : ℕ) (s : List ℕ) where
       by-size false f = inr (refl, f)
 
   -- as code goes through the cases
-  pub case-rest : (length s % pageBytes ≡ 0 → ⊥) → verdict 1 0 ≡ verdictOf magic s
-  unfolding verdictOf sizeWrong
-  case-rest h = simp (ne-eqb _ _ h)
-
-  pub case-many : length s % pageBytes ≡ 0 → pageLimit < pagesIn s → verdict 1 0 ≡ verdictOf magic s
-  unfolding verdictOf sizeWrong
-  case-many m h = simp (eq-eqb _ _ m, lt-ltb _ _ h)
-
-  pub case-search : length s % pageBytes ≡ 0 → pagesIn s ≤ pageLimit → firstBad magic s (pagesIn s) 0 ≡ verdictOf magic s
+  pub case-size : sizeWrong s ≡ true → verdict 1 0 ≡ verdictOf magic s
   unfolding verdictOf
-  case-search m l = simp (size-right s m l)
+  case-size e = sym (rw e)
+
+  pub case-search : sizeWrong s ≡ false → firstBad magic s (pagesIn s) 0 ≡ verdictOf magic s
+  unfolding verdictOf
+  case-search e = sym (rw e)
 
   -- accepted exactly if the size is right and all pages are good
   pub accepted-good : verdictOf magic s .number ≡ 0 → AllGood magic s

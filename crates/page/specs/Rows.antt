@@ -1,10 +1,10 @@
 -- Visible rows (paper 01, Numbers given back).
 use Prim.Native.Nat.{ℕ, zero, suc, _+_}
 use mathlib.Core.List.{List, [], _∷_, _++_}
-use mathlib.Core.Bool.{Bool, true, false}
+use mathlib.Core.Bool.{Bool, false}
 use lib.ListN.{length}
 use lib.Dec.{ltb, leb, eqb}
-use Rattle.endian.specs.Pick.{pick}
+use Rattle.endian.specs.Pick.{pick, consIf}
 use Rattle.page.specs.Layout.{dataType, pagesIn, pageAt, typeOf, countOf, slotAt, deletedOf}
 use Rattle.page.specs.Fault.{verdictOf}
 use Rattle.page.specs.declared.Verdict.{Verdict}
@@ -19,10 +19,6 @@ visible (b ∷ t) = eqb (deletedOf (b ∷ t)) 0
 
 abbrev pub row : ℕ → ℕ → List ℕ → Row
 row i k t = record { page = record { 0 = i }; slot = k; length = length t }
-
-abbrev pub consIf : {A : Type 0} → Bool → A → List A → List A
-consIf true x xs = x ∷ xs
-consIf false x xs = xs
 
 -- the visible rows of page i among the n slots from k on
 unfoldable pub slotRows : ℕ → List ℕ → ℕ → ℕ → List Row

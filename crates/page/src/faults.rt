@@ -88,7 +88,7 @@ fn in_order(page: &[u8], end: usize, count: usize) -> bool
     true
 }
 
-// The first slot that is at fault by itself or shares a byte with an earlier one.
+// The first slot that is at fault by itself or shares a byte with an earlier one. An empty slot shares none and is passed.
 fn first_fault(page: &[u8], end: usize, count: usize) -> Fault
     requires { ⌜ (length (now page) ≡ pageBytes) × (count ≤ slotLimit) ⌝ }
     ensures { λ r. ⌜ r ≡ slotsFault (bodyOf (now (page .entry))) end count 0 ⌝ }
@@ -99,6 +99,10 @@ fn first_fault(page: &[u8], end: usize, count: usize) -> Fault
         if !slot_fits(page, end, k) {
             found = Fault::Slot(k);
             break;
+        }
+        if slot_len(page, k) == 0 {
+            k += 1;
+            continue;
         }
         let mut j: usize = 0;
         'earlier: while j < k {

@@ -6,7 +6,7 @@ ghost use lib.Seq.{paste};
 ghost use Rattle.crc32c.specs.Crc.{crc32c as crcOfBytes};
 ghost use Rattle.crc32c.specs.Tables.{Tables};
 ghost use Rattle.page.specs.Layout.{pageBytes, bodyBytes, slotLimit, pagesIn, magicOf, typeOf, countOf, idOf, lsnOf, bodyOf, slotOff, slotLen};
-ghost use Rattle.page.specs.Fault.{dataFault, faultOf, firstBad, verdictOf};
+ghost use Rattle.page.specs.Fault.{dataFault, faultOf, firstBad, sizeWrong, verdictOf};
 ghost use Rattle.endian.specs.Pick.{pick};
 ghost use Rattle.page.specs.Packed.{packed};
 ghost use Rattle.page.specs.Writer.{withSlot, headOf, sealed, givenAll, partsFit};
@@ -175,25 +175,28 @@ fn first_bad(t: &[u32; 2048], magic: u64, pages: &[u8], count: usize) -> Verdict
     }
 }
 
+// Whether page bytes are no multiple of a page's, or too many pages.
+pub fn size_wrong(pages: &[u8]) -> bool
+    ensures { λ r. ⌜ r ≡ sizeWrong (now (pages .entry)) ⌝ }
+{
+    if pages.len() % PAGE_BYTES != 0 {
+        return true;
+    }
+    PAGE_LIMIT < pages.len() / PAGE_BYTES
+}
+
 // Refusals 1 and 11, over lent tables.
 pub fn verify(t: &[u32; 2048], magic: u64, pages: &[u8]) -> Verdict
     requires { ⌜ Tables (now t) ⌝ }
     ensures { λ r. ⌜ r ≡ verdictOf magic (now (pages .entry)) ⌝ }
 {
-    let count = pages.len() / PAGE_BYTES;
-    if pages.len() % PAGE_BYTES != 0 {
+    if size_wrong(pages) {
         return Verdict {
             number: PAGE_AREA,
             place: 0,
         };
     }
-    if PAGE_LIMIT < count {
-        return Verdict {
-            number: PAGE_AREA,
-            place: 0,
-        };
-    }
-    first_bad(t, magic, pages, count)
+    first_bad(t, magic, pages, pages.len() / PAGE_BYTES)
 }
 
 // Puts tuple into the working page as slot k: its four bytes, and the tuple so that it ends at top of the body. Gives back where it starts.

@@ -5,7 +5,7 @@ use mathlib.Core.Bool.{Bool, true, false}
 use Prim.Native.Nat.{ℕ, zero, suc, _+_, _≤_, _<_}
 use native.Mathlib.Omega.{arith}
 use native.Mathlib.Decide.{decLt}
-use mathlib.Core.List.{List, [], _∷_, _++_, append-nil}
+use mathlib.Core.List.{List, [], _∷_, append-nil}
 use borrow.Author.Tests.{eq-eqb, ne-eqb}
 use Rattle.wal.specs.Entry.{Entry, sizeOf, begin, entryOf}
 use Rattle.wal.specs.Read.{lengthAt, view}
@@ -15,7 +15,8 @@ use Rattle.wal.specs.declared.EntryView.{EntryView}
 use Rattle.wal.proofs.Places.{size-of}
 use Rattle.wal.proofs.Prefix.{Below, stands-at, met-end, met-le, met-next, met-below, before-next, onward-next, onward-end}
 use Rattle.rules.specs.Order.{isBegin}
-use Rattle.rules.specs.Recover.{recordOf, recordsOf, consIf}
+use Rattle.rules.specs.Recover.{recordsOf}
+use Rattle.rules.proofs.Counts.{records-append}
 use Rattle.records.specs.Forward.{beginIn}
 
 -- what an entry says has the size of its length
@@ -46,17 +47,6 @@ module _ {s : List ℕ} {p : ℕ} (h : Stands s p) where
 pub begin-none : (s : List ℕ) (p : ℕ) → p ≡ endOf s → p ≡ beginIn p (onward s p)
 unfolding beginIn
 begin-none s p e = rw (e, onward-end s)
-
--- ---- records in a row
-
-pub records-append : (all es fs : List Entry) → recordsOf all (es ++ fs) ≡ recordsOf all es ++ recordsOf all fs
-unfolding recordsOf
-records-append all [] fs = refl
-records-append all (e ∷ es) fs = rw (records-append all es fs) (go (isBegin e))
-  where
-    go : (b : Bool) → consIf b (recordOf all e) (recordsOf all es ++ recordsOf all fs) ≡ consIf b (recordOf all e) (recordsOf all es) ++ recordsOf all fs
-    go true = refl
-    go false = refl
 
 -- ---- where it is found
 

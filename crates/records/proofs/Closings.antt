@@ -14,45 +14,23 @@ use Rattle.wal.specs.Walk.{entries, endOf}
 use Rattle.wal.specs.Prefix.{entryIn, said, Stands, Met, before, onward}
 use Rattle.wal.specs.declared.EntryView.{EntryView}
 use Rattle.wal.proofs.Prefix.{met-split, met-next, before-next, onward-next, onward-end}
-use Rattle.rules.specs.Shape.{both, either, isKnown, isChange, isChanging}
-use Rattle.rules.specs.Order.{one, count, isBegin, inOrder, neverFull}
+use Rattle.rules.specs.Shape.{both, isKnown, isChange, isChanging}
+use Rattle.rules.specs.Order.{one, count, isBegin, neverFull}
 use Rattle.rules.specs.Recover.{outcomeOf, recordOf}
-use Rattle.rules.proofs.Tests.{false-true}
-use Rattle.rules.proofs.OrderLaws.{Passes, InTurn}
-use Rattle.order.specs.State.{stateAfter, stateFrom, stateOf}
-use Rattle.order.proofs.States.{state-snoc, checkpoint-zero}
+use Rattle.rules.proofs.Tests.{both-none}
+use Rattle.rules.proofs.OrderLaws.{Passes, numbered, InTurn}
+use Rattle.rules.proofs.Counts.{count-append}
+use Rattle.order.specs.State.{stateAfter, stateOf}
+use Rattle.order.proofs.States.{state-snoc, changing, none-changed, checkpoint-zero}
 use Rattle.fates.specs.Fate.{Ordered, endingOf}
 use Rattle.fates.proofs.Turns.{AllTold, told-next, own-state, own-going, turn-at, passes-at}
 use Rattle.fates.proofs.Endings.{fate-is}
 use Rattle.records.specs.Forward.{closedBy, closing}
 
--- a change of transaction t
-abbrev changing : ℕ → Entry → Bool
-changing t f = both (isChange f) (eqb (f .txn) t)
-
 changing-other : (t : ℕ) (e : Entry) → eqb (e .txn) t ≡ false → changing t e ≡ false
-changing-other t e h = rw h (go (isChange e))
-  where
-    go : (b : Bool) → both b false ≡ false
-    go true = refl
-    go false = refl
+changing-other t e h = rw h (both-none (isChange e))
 
-pub count-append : (f : Entry → Bool) (es fs : List Entry) → count f (es ++ fs) ≡ count f es + count f fs
-count-append f [] fs = omega arith
-count-append f (e ∷ es) fs = omega (arith, count-append f es fs)
-
--- ---- no change before the Begin, and none behind the ending
-
-none-before : (t s : ℕ) (es : List Entry) → stateFrom t s es ≡ 0 → (s ≡ 0) × (count (changing t) es ≡ 0)
-unfolding stateFrom stateAfter
-none-before t s [] h = (h, refl)
-none-before t s (e ∷ es) h = go (eqb (e .txn) t) (either (eqb (e .kind) commit) (eqb (e .kind) rollback)) (isChange e) (none-before t _ es h)
-  where
-    go : (w b c : Bool) → (pick w (pick b 2 1) s ≡ 0) × (count (changing t) es ≡ 0) → (s ≡ 0) × (one (both c w) + count (changing t) es ≡ 0)
-    go true true c k = absurd (omega arith)
-    go true false c k = absurd (omega arith)
-    go false b true k = (k .0, omega arith)
-    go false b false k = (k .0, omega arith)
+-- ---- no change behind the ending
 
 none-after : (t : ℕ) → (t ≡ 0 → ⊥) → (full : ℕ → Bool) (es fs : List Entry) → InTurn full es fs → AllTold es → stateOf t es ≡ 2 → count (changing t) fs ≡ 0
 none-after t n full es [] h told e = refl
@@ -112,21 +90,9 @@ closing-is t l n full m es (f ∷ fs) h told s =
         rw (k, ← z) (more (m + 1) (state-snoc t es f ∙ rw (w, c, q)))
     go false c r w p q more none =
         let z : 0 + count (changing t) fs ≡ count (changing t) fs = omega arith in
-        rw (none-of (isChange f), none-of c, none-of r, z) (more m (state-snoc t es f ∙ rw w s))
-      where
-        none-of : (b : Bool) → both b false ≡ false
-        none-of true = refl
-        none-of false = refl
+        rw (both-none (isChange f), both-none c, both-none r, z) (more m (state-snoc t es f ∙ rw w s))
 
 -- ---- the record of a Begin
-
--- a Begin has a number
-pub begin-numbered : (full : ℕ → Bool) (es : List Entry) (f : Entry) → Passes full es f → isBegin f ≡ true → f .txn ≡ 0 → ⊥
-unfolding inOrder isChanging
-begin-numbered full es f h b z =
-    let k : f .kind ≡ begin = eqb-true _ _ b in
-    let o : isChanging begin ≡ true = rw (k, eq-eqb (f .txn) 0 z) at (h .ordered) in
-    false-true o
 
 module _ {s : List ℕ} {p : ℕ} (o : Ordered s) (m : Met s p) (h : Stands s p) (b : isBegin (said s p) ≡ true) where
   abbrev t : ℕ
@@ -138,21 +104,22 @@ module _ {s : List ℕ} {p : ℕ} (o : Ordered s) (m : Met s p) (h : Stands s p)
   fits : Passes neverFull (before s p) (said s p)
   fits = passes-at (turn-at o m) h
 
-  numbered : t ≡ 0 → ⊥
-  numbered = begin-numbered neverFull (before s p) (said s p) fits b
-
   kind : said s p .kind ≡ begin
   kind = eqb-true _ _ b
+
+  some : t ≡ 0 → ⊥
+  unfolding isChanging
+  some = numbered neverFull (before s p) (said s p) fits begin refl refl kind
 
   -- the outcome and the changes, by the entries behind it
   outcome : outcomeOf (entries s) t ≡ endingOf t rest
   unfolding endingOf
-  outcome = fate-is t o m h refl numbered ∙ rw (onward-next s h, kind)
+  outcome = fate-is t o m h refl some ∙ rw (onward-next s h, kind)
 
   changes : count (changing t) (entries s) ≡ count (changing t) rest
   unfolding isChanging
   changes =
-      let a : count (changing t) (before s p) ≡ 0 = none-before t 0 (before s p) (own-state neverFull (before s p) (said s p) fits (turn-at o m .told) numbered ∙ rw b) .1 in
+      let a : count (changing t) (before s p) ≡ 0 = none-changed t 0 (before s p) (own-state neverFull (before s p) (said s p) fits (turn-at o m .told) some ∙ rw b) .1 in
       let c : changing t (said s p) ≡ false = ending-plain begin (said s p) refl kind t in
       let d : count (changing t) (entries s) ≡ count (changing t) (before s p) + count (changing t) (said s p ∷ rest) =
       ap (count (changing t)) (met-split s m ∙ ap (λ (l : List Entry). before s p ++ l) (onward-next s h)) ∙ count-append (changing t) (before s p) (said s p ∷ rest)
@@ -169,7 +136,7 @@ module _ {s : List ℕ} {p : ℕ} (o : Ordered s) (m : Met s p) (h : Stands s p)
   record-is =
       let u = turn-at o (met-next s m h) in
       let z : 0 + count (changing t) rest ≡ count (changing t) (entries s) = omega (arith, changes) in
-      closing-is t (said s p .lsn) numbered neverFull 0 (before s (p + lengthAt s p)) rest (u .rest) (u .told) opened ∙ ap₂ (closedBy t (said s p .lsn)) (sym outcome) z
+      closing-is t (said s p .lsn) some neverFull 0 (before s (p + lengthAt s p)) rest (u .rest) (u .told) opened ∙ ap₂ (closedBy t (said s p .lsn)) (sym outcome) z
 
 -- the same by what is read of the Begin
 pub record-read : {s : List ℕ} {p : ℕ} → Ordered s → Met s p → Stands s p → isBegin (said s p) ≡ true → (v : EntryView) → v ≡ entryIn s p

@@ -8,6 +8,7 @@ use mathlib.Core.List.{List, [], _∷_, _++_, append-assoc}
 use lib.ListN.{length, drop, set, length-append, length-drop}
 use lib.Seq.{drop-cons, set-at}
 use borrow.Author.Tests.{eqb-true}
+use Rattle.endian.specs.Pick.{consIf}
 use Rattle.wal.specs.Entry.{Entry, sizeOf, begin}
 use Rattle.wal.specs.Read.{lengthAt}
 use Rattle.wal.specs.Walk.{entries, endOf}
@@ -15,14 +16,14 @@ use Rattle.wal.specs.Prefix.{said, Stands, Met, before, onward}
 use Rattle.wal.proofs.Prefix.{met-split, met-first, met-next, met-le, met-small, before-first, before-next, before-end}
 use Rattle.rules.specs.Shape.{both, isNone, isShaped, isBare}
 use Rattle.rules.specs.Order.{one, count, isBegin}
-use Rattle.rules.specs.Recover.{consIf, recordOf, recordsOf, tableAfter}
+use Rattle.rules.specs.Recover.{recordOf, recordsOf, tableAfter}
 use Rattle.rules.specs.declared.Record.{Record}
 use Rattle.rules.proofs.Tests.{both-true}
+use Rattle.rules.proofs.Counts.{count-append, records-append}
 use Rattle.fates.specs.Fate.{Ordered}
 use Rattle.fates.proofs.Turns.{still, arrived, turn-at, passes-at}
 use Rattle.records.specs.Forward.{beginIn, closedBy}
-use Rattle.records.proofs.Begins.{said-size, records-append, Found, found}
-use Rattle.records.proofs.Closings.{count-append}
+use Rattle.records.proofs.Begins.{said-size, Found, found}
 
 -- ---- lists
 

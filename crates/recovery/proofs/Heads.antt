@@ -12,15 +12,16 @@ use borrow.Author.Tests.{eq-eqb, ne-eqb}
 use Rattle.endian.specs.Pick.{pick}
 use Rattle.endian.specs.Numbers.{part, numberAt, numberOf, bytesOf}
 use Rattle.endian.proofs.Numbers.{length-bytesOf, number-back}
-use Rattle.endian.proofs.Places.{number-append, number-byte, number-take, number-drop}
+use Rattle.endian.proofs.Places.{number-append, number-take, number-drop}
 use Rattle.page.specs.Layout.{xminOf, xmaxOf, deletedOf, payloadOf}
 use Rattle.page.specs.Fault.{verdict}
+use Rattle.page.proofs.Reading.{deleted-in}
 use Rattle.rules.specs.Shape.{stamped}
 use Rattle.rules.specs.Row.{headOf, refusedRow}
 use Rattle.rules.proofs.ImageLaws.{stamped-length, stamped-deleted}
 use Rattle.images.specs.declared.Image.{Image}
-use Rattle.images.specs.Tuples.{Lies, tupleIn}
-use Rattle.recovery.specs.Spot.{tupleAt, filledBy}
+use Rattle.images.specs.Tuples.{Lies, tupleAt, tupleIn}
+use Rattle.recovery.specs.Spot.{filledBy}
 
 -- ---- the header of a tuple by its fields
 
@@ -80,9 +81,8 @@ module _ (source : List ℕ) (m : Image) (within : m .place + m .length ≤ leng
   head-plain e =
       let z : m .place + 0 ≡ m .place = omega arith in
       let x : xminOf bytes ≡ numberAt 8 (m .place) source = field-at 8 0 (omega arith) ∙ ap (λ (k : ℕ). numberAt 8 k source) z in
-      let d : deletedOf bytes ≡ getD source (m .place + 16) 0 = field-at 1 16 (omega arith) ∙ number-byte (m .place + 16) source in
       let h = head-some bytes image-long in
-      rw e (rw (x, field-at 8 8 (omega arith), d) at h)
+      rw e (rw (x, field-at 8 8 (omega arith), deleted-in source (m .place) (m .length) long) at h)
 
 -- ---- an image in a log or in a page area
 module _ (log pages : List ℕ) (m : Image) where

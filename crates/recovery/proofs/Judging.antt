@@ -1,12 +1,11 @@
 -- What judging tells, refusal by refusal, and what an accepted log and accepted pages are. Assumes nothing.
-use Prim.Native.Nat.{ℕ, _+_, _*_, _%_, _≤_, _<_}
+use Prim.Native.Nat.{ℕ, _+_, _*_, _≤_, _<_}
 use mathlib.Core.Path.{_≡_, sym, ap, _∙_}
-use mathlib.Core.Bool.{Bool, true, false}
+use mathlib.Core.Bool.{Bool, false}
 use mathlib.Core.List.{List, [], _∷_, _++_}
 use native.Mathlib.Omega.{arith}
 use lib.ListN.{length}
-use lib.Dec.{ltb}
-use borrow.Author.Tests.{eq-eqb, ne-eqb}
+use borrow.Author.Tests.{eq-eqb}
 use Rattle.wal.specs.Entry.{Entry}
 use Rattle.wal.specs.Read.{first}
 use Rattle.wal.specs.Walk.{entries, endOf}
@@ -38,16 +37,6 @@ rising full es (f ∷ fs) h = ((h .0 .shaped, h .0 .rises), rising full (es ++ (
 
 pub rises-ok : (log : List ℕ) → Ordered log → Rises log (endOf log)
 rises-ok log o = sound-of (met-end log) (rw (before-end log) (rising neverFull [] (entries log) (in-turn neverFull [] (entries log) first o)))
-
--- ---- the size of the page area
-
-pub size-rest : (pages : List ℕ) → (length pages % pageBytes ≡ 0 → ⊥) → true ≡ sizeWrong pages
-unfolding sizeWrong
-size-rest pages h = rw (ne-eqb _ 0 h)
-
-pub size-many : (pages : List ℕ) → length pages % pageBytes ≡ 0 → ltb 4096 (pagesIn pages) ≡ sizeWrong pages
-unfolding sizeWrong
-size-many pages h = rw (eq-eqb _ 0 h)
 
 -- ---- what accepted pages are
 

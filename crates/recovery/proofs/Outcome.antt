@@ -5,7 +5,7 @@ use mathlib.Core.Bool.{Bool, true, false}
 use mathlib.Core.List.{List, []}
 use lib.ListN.{length}
 use lib.Dec.{eqb}
-use borrow.Author.Tests.{eq-eqb, ne-eqb, eqb-true}
+use borrow.Author.Tests.{eq-eqb, ne-eqb}
 use Rattle.wal.specs.Entry.{Entry}
 use Rattle.wal.specs.Walk.{entries, endOf}
 use Rattle.page.specs.Layout.{pageBytes, dataType, pagesIn, pageAt, typeOf}
@@ -110,13 +110,6 @@ module _ (v : Verdict) (pages log : List ℕ) where
       go : (b : Bool) → eqb (v .number) 0 ≡ b → Given t .pages ≡ Given u .pages
       go true e = rw e
       go false e = rw e
-
-  pub answer-zero : (t : List Record) → recoverBy v pages log t .answer .number ≡ 0 → v .number ≡ 0
-  answer-zero t h = go (eqb (v .number) 0) refl h
-    where
-      go : (b : Bool) → eqb (v .number) 0 ≡ b → Given t .answer .number ≡ 0 → v .number ≡ 0
-      go true e h = eqb-true (v .number) 0 e
-      go false e h = rw e at h
 
   pub answer-refused : (t : List Record) → (recoverBy v pages log t .answer .number ≡ 0 → ⊥) → v .number ≡ 0 → ⊥
   answer-refused t h z = h (ap (λ (r : Recovered). r .answer .number) (by-done v pages log t z) ∙ done-number)

@@ -10,6 +10,7 @@ use lib.Dec.{eqb}
 use borrow.Author.Tests.{eq-eqb, ne-eqb, eqb-true, eqb-false}
 use Rattle.endian.specs.Pick.{pick}
 use Rattle.endian.specs.Numbers.{part}
+use Rattle.endian.proofs.Places.{drop-part}
 use Rattle.page.specs.Layout.{payloadOf}
 use Rattle.page.specs.Fault.{verdict}
 use Rattle.page.specs.declared.Verdict.{Verdict}
@@ -17,11 +18,10 @@ use Rattle.rules.specs.Row.{rowVerdict, tupleOf, headOf, refusedRow, rowOf, row
 use Rattle.rules.specs.declared.RowHead.{RowHead}
 use Rattle.rules.proofs.Tests.{false-true}
 use Rattle.images.specs.declared.Image.{Image}
-use Rattle.images.specs.Tuples.{Lies, tupleIn}
-use Rattle.images.proofs.Changes.{drop-part}
+use Rattle.images.specs.Tuples.{Lies, tupleAt, tupleIn}
 use Rattle.recovery.specs.declared.Spot.{Spot}
 use Rattle.recovery.specs.declared.Located.{Located}
-use Rattle.recovery.specs.Spot.{tupleAt, locatedBy, Spotted, Lying}
+use Rattle.recovery.specs.Spot.{locatedBy, Spotted, Lying}
 use Rattle.recovery.proofs.Heads.{stamped-payload, tuple-logged, tuple-paged, tuple-empty, head-logged, head-paged, image-long}
 
 -- ---- the payload of an image

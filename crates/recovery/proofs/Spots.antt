@@ -5,27 +5,27 @@ use mathlib.Core.Bool.{Bool, true, false}
 use mathlib.Core.Logic.{_⊎_, inl, inr}
 use mathlib.Core.List.{List, []}
 use native.Mathlib.Omega.{arith}
-use lib.ListN.{length, drop, getD}
+use lib.ListN.{length, drop}
 use borrow.Author.Tests.{eq-eqb, ne-eqb, le-leb, lt-leb}
 use Rattle.rules.proofs.Tests.{false-true}
 use Rattle.endian.specs.Numbers.{part, Bytes}
 use Rattle.endian.specs.declared.TxnNumber.{TxnNumber}
-use Rattle.endian.proofs.Places.{part-take, part-drop, number-byte, number-take, number-drop}
+use Rattle.endian.proofs.Places.{part-take, part-drop}
 use Rattle.wal.specs.Read.{first}
 use Rattle.wal.specs.Walk.{entries}
 use Rattle.page.specs.Layout.{pageBytes, dataType, pagesIn, pageAt, typeOf, slotAt}
 use Rattle.page.specs.Fault.{verdict, accepted}
 use Rattle.page.specs.Good.{TupleGood}
 use Rattle.page.specs.declared.Verdict.{Verdict}
-use Rattle.rules.specs.Shape.{stamped, isChange, isShaped, beforeOf, afterOf}
+use Rattle.rules.specs.Shape.{stamped}
 use Rattle.rules.specs.Order.{neverFull}
-use Rattle.rules.specs.Mend.{committed, changes, topOf, decided}
+use Rattle.rules.specs.Mend.{committed, topOf, decided}
 use Rattle.rules.specs.Recover.{recoverVerdict}
 use Rattle.rules.specs.Row.{rowVerdict, tupleOf}
-use Rattle.rules.proofs.Slots.{Images, decided-keeps}
+use Rattle.rules.proofs.Slots.{decided-keeps}
 use Rattle.rules.proofs.Accepted.{slot-good}
-use Rattle.rules.proofs.ImageLaws.{images-good, images-of}
-use Rattle.rules.proofs.OrderLaws.{every-map, in-turn, all-shaped}
+use Rattle.rules.proofs.ImageLaws.{tuple-images}
+use Rattle.rules.proofs.OrderLaws.{in-turn}
 use Rattle.fates.specs.Fate.{Ordered}
 use Rattle.cells.specs.Cell.{startOf}
 use Rattle.cells.proofs.CellLaws.{start-next}
@@ -59,20 +59,10 @@ module _ {s pages t : List ℕ} (i : ℕ) (room : length (pageAt i pages) ≡ pa
 
 -- ---- what recovery would leave in a slot is nothing or has a row header
 
-tuple-images : (log : List ℕ) → Ordered log → (i k : ℕ) → Images TupleGood (changes i k (entries log))
-tuple-images log o i k =
-    images-of TupleGood i k (entries log)
-    (every-map (λ e. isShaped e ≡ true) (λ e. isChange e ≡ true → TupleGood (beforeOf e) × TupleGood (afterOf e)) (λ e s c. images-good e c s) (entries log)
-    (all-shaped neverFull [] (entries log) (in-turn neverFull [] (entries log) first o)))
-
 pub decided-good : (log p : List ℕ) → Ordered log → Sound p → (i k : ℕ) → TupleGood (decided (committed (entries log)) (entries log) i k (slotAt p k))
-decided-good log p o g i k = decided-keeps TupleGood (committed (entries log)) (entries log) i k (slotAt p k) (tuple-images log o i k) (slot-good p k (g .size) (g .good))
-
--- ---- the type of a page
-
-pub type-at : (pages : List ℕ) (i : ℕ) → typeOf (pageAt i pages) ≡ getD pages (i * pageBytes + 8) 0
-type-at pages i =
-    number-take 1 8 pageBytes (drop (i * pageBytes) pages) (omega arith) ∙ number-drop 1 8 (i * pageBytes) pages ∙ number-byte (i * pageBytes + 8) pages
+decided-good log p o g i k =
+    decided-keeps TupleGood (committed (entries log)) (entries log) i k (slotAt p k) (tuple-images neverFull (entries log) (in-turn neverFull [] (entries log) first o) i k)
+    (slot-good p k (g .size) (g .good))
 
 -- ---- verdicts
 module _ (magic floor : ℕ) (pages log : List ℕ) (i : ℕ) where

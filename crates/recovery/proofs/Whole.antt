@@ -14,8 +14,9 @@ use Rattle.rules.specs.Order.{count, isBegin, fullAt}
 use Rattle.rules.specs.Recover.{recoverVerdict, tableAfter, Recovered, recoverBy, recoverOf}
 use Rattle.rules.specs.declared.Answer.{Answer}
 use Rattle.rules.specs.declared.Record.{Record}
+use Rattle.rules.proofs.Again.{answer-zero}
 use Rattle.fates.specs.Fate.{Ordered}
-use Rattle.recovery.proofs.Outcome.{sure, by-refused, by-done, by-answer, by-pages, answer-zero, answer-refused, answer-tail, begins-of}
+use Rattle.recovery.proofs.Outcome.{sure, by-refused, by-done, by-answer, by-pages, answer-refused, answer-tail, begins-of}
 
 module _ (magic floor : ℕ) (pages log : List ℕ) (table : List Record) where
   abbrev Judged : Verdict

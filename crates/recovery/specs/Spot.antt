@@ -9,7 +9,6 @@ use lib.Dec.{eqb}
 use Rattle.endian.specs.Pick.{pick}
 use Rattle.endian.specs.Numbers.{part}
 use Rattle.page.specs.Fault.{verdict}
-use Rattle.rules.specs.Shape.{stamped}
 use Rattle.rules.specs.Row.{rowVerdict, tupleOf, rowOf, rowPayload}
 use Rattle.rules.specs.declared.RowHead.{RowHead}
 use Rattle.images.specs.declared.Image.{Image}
@@ -24,10 +23,6 @@ shiftedBy a m = pick (m .logged) m (record { logged = false; place = m .place + 
 -- a verdict without a tuple
 abbrev pub nowhereBy : ℕ → ℕ → Spot
 nowhereBy number place = record { number = number; place = place; image = paged 0 0 }
-
--- the bytes that an image names in its source, stamped where they are to be
-abbrev pub tupleAt : List ℕ → Image → List ℕ
-tupleAt source m = pick (m .stamped) (stamped (m .by .0) (part (m .place) (m .length) source)) (part (m .place) (m .length) source)
 
 -- the row header of a tuple with these fields
 abbrev pub filledBy : ℕ → ℕ → ℕ → RowHead

@@ -1,7 +1,6 @@
 // Refusals 1 to 14, before anything lent is written.
 ghost use mathlib.Core.Path.{_≡_};
 ghost use Rattle.crc32c.specs.Tables.{Tables};
-ghost use Rattle.page.specs.Fault.{sizeWrong};
 ghost use Rattle.order.specs.First.{fullOf};
 ghost use Rattle.fates.specs.Fate.{Memo};
 ghost use Rattle.recovery.specs.Judgement.{Judgement};
@@ -11,21 +10,11 @@ use checks::inner::stray;
 use endian::Lsn;
 use order::Walked;
 use page::PAGE_BYTES;
-use page::PAGE_LIMIT;
+use page::inner::size_wrong;
 use refusals::NO_DATA_PAGE;
 use refusals::PAGE_AREA;
 use refusals::PAGE_OVERFULL;
 use room::inner::tight;
-
-// Whether page bytes are no multiple of a page's, or too many pages.
-fn size_wrong(pages: &[u8]) -> bool
-    ensures { λ r. ⌜ r ≡ sizeWrong (now (pages .entry)) ⌝ }
-{
-    if pages.len() % PAGE_BYTES != 0 {
-        return true;
-    }
-    PAGE_LIMIT < pages.len() / PAGE_BYTES
-}
 
 fn refusal(number: u64, place: usize) -> Walked
     ensures { λ r. ⌜ r ≡ record { number = number; place = place; last = record { 0 = 0 } } ⌝ }

@@ -1,46 +1,49 @@
 -- Recovery again: from pages of which each is as it was or as an earlier run, from a shorter cut, left it, the run from the longer cut is
 -- accepted as it was, and ends in the same bytes. Of any pages and any log.
 -- Assumes nothing.
-use mathlib.Core.Path.{_≡_, refl, sym, ap, ap₂, _∙_, subst}
+use mathlib.Core.Path.{_≡_, refl, sym, ap, _∙_, subst}
 use mathlib.Core.Logic.{_⊎_, inl, inr, ⊎-elim}
 use mathlib.Core.Bool.{Bool, true, false}
-use Prim.Native.Nat.{ℕ, zero, suc, _+_, _*_, _/_, _%_, _^_, _≤_, _<_, max}
+use Prim.Native.Nat.{ℕ, _+_, _*_, _/_, _^_, _≤_, _<_}
 use native.Mathlib.Omega.{arith}
-use mathlib.Core.List.{List, [], _∷_, _++_, append-nil}
-use lib.ListN.{length, take, drop}
+use native.Mathlib.Nat.{zero-add}
+use mathlib.Core.List.{List, [], _++_}
+use lib.ListN.{length, take}
 use lib.Dec.{eqb}
 use borrow.Author.Tests.{eq-eqb, eqb-true}
-use Rattle.endian.specs.Pick.{pick}
 use Rattle.endian.specs.Numbers.{Bytes}
 use Rattle.endian.proofs.Bytes.{bytes-take, bytes-drop}
 use Rattle.wal.specs.Entry.{Entry}
 use Rattle.wal.specs.Read.{headerFault, readAt, first}
 use Rattle.wal.specs.Walk.{entries, endOf}
 use Rattle.wal.proofs.Cuts.{cut-entries}
-use Rattle.page.specs.Layout.{pageBytes, bodyBytes, dataType, pagesIn, pageAt, typeOf, lsnOf}
-use Rattle.page.specs.Packed.{roomFor}
-use Rattle.page.specs.Good.{Good, TupleGood}
-use Rattle.page.specs.Fault.{verdict, faultOf, sizeWrong}
-use Rattle.page.specs.declared.Fault.the-variants.{Sound}
+use Rattle.page.specs.Layout.{pageBytes, pagesIn, pageAt, slotAt}
+use Rattle.page.specs.Good.{TupleGood}
+use Rattle.page.specs.Fault.{verdict, sizeWrong}
 use Rattle.page.specs.declared.Verdict.{Verdict}
 use Rattle.page.proofs.FaultLaws.{sound-good, good-sound}
-use Rattle.rules.specs.Shape.{isChange, isShaped, beforeOf, afterOf}
+use Rattle.page.proofs.Verdicts.{page-length}
+use Rattle.rules.specs.Shape.{isChange, beforeOf, afterOf}
 use Rattle.rules.specs.Order.{lastLsn, fullAt, orderFrom, endVerdict, logVerdict, _then_}
-use Rattle.rules.specs.Mend.{committed, changes, topOf, lastOn, slotsFor, mendBy, mend, Accepts}
+use Rattle.rules.specs.Mend.{committed, changes, lastOn, decided, mendBy, mend, Accepts}
 use Rattle.rules.specs.Recover.{recoverVerdict, mendedFrom, done, refused, recoverBy, recoverOf, Recovered}
 use Rattle.rules.specs.declared.Record.{Record}
 use Rattle.rules.proofs.Slots.{Images, last-append}
-use Rattle.rules.proofs.Mended.{mend-again}
+use Rattle.rules.proofs.Mended.{slot-mended, length-mended, mend-again}
 use Rattle.rules.proofs.Accepted.{mend-accepted}
-use Rattle.rules.proofs.OrderLaws.{Every, every-map, InTurn, in-turn, all-shaped, last-bounds, last-small}
-use Rattle.rules.proofs.ImageLaws.{InRange, images-good, images-bytes, images-of}
+use Rattle.rules.proofs.OrderLaws.{every-map, InTurn, in-turn, last-bounds, last-small}
+use Rattle.rules.proofs.ImageLaws.{InRange, images-bytes, images-of, tuple-images}
 use Rattle.rules.proofs.Range.{in-range}
-use Rattle.rules.proofs.Verdicts.{Sane, Lent, Roomy, Accepted, is-accepted, accepted-is, then-zero}
-use Rattle.rules.proofs.Area.{page-mended, length-mended, mended-alike, page-length}
+use Rattle.rules.proofs.Verdicts.{Accepted, is-accepted, accepted-is, then-zero}
+use Rattle.rules.proofs.Area.{page-mended, mended-alike}
 
-which : (b : Bool) (x y : Recovered) (v : Verdict) → eqb (v .number) 0 ≡ b → y .answer .number ≡ v .number → pick b x y .answer .number ≡ 0 → v .number ≡ 0
-which true x y v e f k = eqb-true _ _ e
-which false x y v e f k = sym f ∙ k
+-- an answer of 0 comes from no refusal
+pub answer-zero : (v : Verdict) (pages log : List ℕ) (table : List Record) → recoverBy v pages log table .answer .number ≡ 0 → v .number ≡ 0
+answer-zero v pages log table h = go (eqb (v .number) 0) refl h
+  where
+    go : (b : Bool) → eqb (v .number) 0 ≡ b → recoverBy v pages log table .answer .number ≡ 0 → v .number ≡ 0
+    go true e k = eqb-true (v .number) 0 e
+    go false e k = rw e at k
 
 -- the two ways of recovery
 module _ (magic floor : ℕ) (pages log : List ℕ) (table : List Record) where
@@ -57,13 +60,28 @@ module _ (magic floor : ℕ) (pages log : List ℕ) (table : List Record) where
   unfolding recoverOf
   recover-refused h = rw h
 
-  -- an answer of 0 comes from no refusal
   pub recover-zero : recoverOf magic floor pages log table .answer .number ≡ 0 → recoverVerdict (fullAt (length table)) magic floor pages log .number ≡ 0
   unfolding recoverOf
-  recover-zero h = which (eqb (v .number) 0) _ _ v refl refl h
-    where
-      v : Verdict
-      v = recoverVerdict (fullAt (length table)) magic floor pages log
+  recover-zero h = answer-zero (recoverVerdict (fullAt (length table)) magic floor pages log) pages log table h
+
+  pub zero-accepted : recoverOf magic floor pages log table .answer .number ≡ 0 → Accepted (fullAt (length table)) magic floor pages log
+  zero-accepted h = is-accepted (fullAt (length table)) magic floor pages log (recover-zero h)
+
+  -- each page is mended, and each of its slots decided
+  module _ (a : Accepted (fullAt (length table)) magic floor pages log) (i : ℕ) (l : i < pagesIn pages) where
+    abbrev E : List Entry
+    E = entries log
+
+    pub page-after : pageAt i (recoverOf magic floor pages log table .pages) ≡ mend E i (pageAt i pages)
+    unfolding mend
+    page-after =
+        ap (pageAt i) (recover-done (accepted-is (fullAt (length table)) magic floor pages log a) .1)
+        ∙ page-mended E pages (pagesIn pages) 0 i (λ k x y. length-mended (committed E) E k (pageAt k pages) (page-length pages k (omega arith)) (a .roomy k (omega arith))) l
+        ∙ ap (λ (k : ℕ). mend E k (pageAt k pages)) (zero-add i)
+
+    pub slot-after : (k : ℕ) → slotAt (pageAt i (recoverOf magic floor pages log table .pages)) k ≡ decided (committed E) E i k (slotAt (pageAt i pages) k)
+    unfolding mend
+    slot-after k = ap (λ (p : List ℕ). slotAt p k) page-after ∙ slot-mended (committed E) E i (pageAt i pages) (page-length pages i l) (a .roomy i l) k
 
 -- what an accepted log tells
 log-in-turn : (full : ℕ → Bool) (s : List ℕ) → logVerdict full s .number ≡ 0 → InTurn full [] (entries s)
@@ -94,11 +112,8 @@ module _ (full : ℕ → Bool) (magic floor₁ floor : ℕ) (P L : List ℕ) (bP
   longer : (fs : List Entry) × (E₁ ++ fs ≡ E₂)
   longer = cut-entries L c₁ c₂ le
 
-  shaped : Every (λ e. isShaped e ≡ true) E₁
-  shaped = all-shaped full [] E₁ (log-in-turn full (take c₁ L) (A₁ .logOk))
-
   tuples : (i k : ℕ) → Images TupleGood (changes i k E₁)
-  tuples i k = images-of TupleGood i k E₁ (every-map (λ e. isShaped e ≡ true) (λ e. isChange e ≡ true → TupleGood (beforeOf e) × TupleGood (afterOf e)) (λ e s c. images-good e c s) E₁ shaped)
+  tuples = tuple-images full E₁ (log-in-turn full (take c₁ L) (A₁ .logOk))
 
   bytes : (i k : ℕ) → Images Bytes (changes i k E₁)
   bytes i k = images-of Bytes i k E₁ (every-map InRange (λ e. isChange e ≡ true → Bytes (beforeOf e) × Bytes (afterOf e)) (λ e r c. images-bytes e r) E₁ (in-range (take c₁ L) (bytes-take c₁ bL)))
@@ -178,7 +193,7 @@ module _ (magic floor₁ floor : ℕ) (P L : List ℕ) (bP : Bytes P) (bL : Byte
     (Q : List ℕ) (same : length Q ≡ length P)
     (each : (i : ℕ) → i < pagesIn P → (pageAt i Q ≡ pageAt i P) ⊎ (pageAt i Q ≡ pageAt i (recoverOf magic floor₁ P (take c₁ L) T₁ .pages))) where
   A : Accepted (fullAt (length T₂)) magic floor P (take c₂ L)
-  A = is-accepted (fullAt (length T₂)) magic floor P (take c₂ L) (recover-zero magic floor P (take c₂ L) T₂ ok)
+  A = zero-accepted magic floor P (take c₂ L) T₂ ok
 
   abbrev Ends : Type 0
   Ends = (recoverOf magic floor Q (take c₂ L) T₃ .answer ≡ recoverOf magic floor P (take c₂ L) T₂ .answer)
@@ -197,23 +212,14 @@ module _ (magic floor₁ floor : ℕ) (P L : List ℕ) (bP : Bytes P) (bL : Byte
         d .1 ∙ again-pages (fullAt (length T₂)) magic f floor P L bP bL c c₂ l a A Q same h ∙ sym (e .1),
       )
 
-  mended-first : (a : Accepted (fullAt (length T₂)) magic floor₁ P (take c₁ L)) → recoverVerdict (fullAt (length T₁)) magic floor₁ P (take c₁ L) .number ≡ 0
-      → (i : ℕ) → i < pagesIn P → pageAt i (recoverOf magic floor₁ P (take c₁ L) T₁ .pages) ≡ mend (entries (take c₁ L)) i (pageAt i P)
-  mended-first a v i l =
-      let whole : (k : ℕ) → 0 ≤ k → k < 0 + pagesIn P → length (mend (entries (take c₁ L)) k (pageAt k P)) ≡ pageBytes =
-      λ k x y. one-page (fullAt (length T₂)) magic floor₁ floor P L bP bL c₁ c₂ le a A k (omega arith) .0 .good .size in
-      let z : 0 + i ≡ i = omega arith in
-      ap (pageAt i) (recover-done magic floor₁ P (take c₁ L) T₁ v .1)
-      ∙ page-mended (entries (take c₁ L)) P (pagesIn P) 0 i whole l ∙ ap (λ (k : ℕ). mend (entries (take c₁ L)) k (pageAt k P)) z
-
   pub again : Ends
   again = go (eqb (recoverVerdict (fullAt (length T₁)) magic floor₁ P (take c₁ L) .number) 0) refl
     where
       go : (b : Bool) → eqb (recoverVerdict (fullAt (length T₁)) magic floor₁ P (take c₁ L) .number) 0 ≡ b → Ends
       go true e =
           let v : recoverVerdict (fullAt (length T₁)) magic floor₁ P (take c₁ L) .number ≡ 0 = eqb-true _ _ e in
-          let a : Accepted (fullAt (length T₂)) magic floor₁ P (take c₁ L) = is-accepted (fullAt (length T₂)) magic floor₁ P (take c₁ L) (rw t₁ at v) in
-          ends c₁ floor₁ le a (λ i l. ⊎-elim {C = (pageAt i Q ≡ pageAt i P) ⊎ (pageAt i Q ≡ mend (entries (take c₁ L)) i (pageAt i P))} (λ h. inl h) (λ h. inr (h ∙ mended-first a v i l)) (each i l))
+          let a : Accepted (fullAt (length T₁)) magic floor₁ P (take c₁ L) = is-accepted (fullAt (length T₁)) magic floor₁ P (take c₁ L) v in
+          ends c₁ floor₁ le (rw t₁ at a) (λ i l. ⊎-elim {C = (pageAt i Q ≡ pageAt i P) ⊎ (pageAt i Q ≡ mend (entries (take c₁ L)) i (pageAt i P))} (λ h. inl h) (λ h. inr (h ∙ page-after magic floor₁ P (take c₁ L) T₁ a i l)) (each i l))
       go false e =
           let p : recoverOf magic floor₁ P (take c₁ L) T₁ .pages ≡ P = ap (λ (r : Recovered). r .pages) (recover-refused magic floor₁ P (take c₁ L) T₁ e) in
           ends c₂ floor (omega arith) A (λ i l. inl (⊎-elim {C = pageAt i Q ≡ pageAt i P} (λ h. h) (λ h. h ∙ ap (pageAt i) p) (each i l)))

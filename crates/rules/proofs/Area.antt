@@ -5,10 +5,10 @@ use Prim.Native.Nat.{ℕ, zero, suc, _+_, _*_, _-_, _/_, _%_, _≤_, _<_}
 use native.Mathlib.Omega.{arith}
 use native.Mathlib.Nat.{add-zero}
 use mathlib.Core.List.{List, [], _∷_, _++_}
-use lib.ListN.{length, take, drop, length-append, length-take, length-drop, take-append-drop}
-use lib.Seq.{take-at, drop-at, drop-drop, take-all, length-take-le}
+use lib.ListN.{length, take, drop, length-append, length-take, take-append-drop}
+use lib.Seq.{take-at, drop-at, drop-drop, take-all}
 use Rattle.wal.specs.Entry.{Entry}
-use Rattle.page.specs.Layout.{pageBytes, pagesIn, pageAt}
+use Rattle.page.specs.Layout.{pageBytes, pageAt}
 use Rattle.rules.specs.Mend.{mend}
 use Rattle.rules.specs.Recover.{mendedFrom}
 
@@ -48,7 +48,3 @@ unfolding mendedFrom
 mended-alike es s t zero i h = refl
 mended-alike es s t (suc n) i h =
     ap₂ _++_ (h i (omega arith) (omega arith)) (mended-alike es s t n (suc i) (λ k a b. h k (omega arith) (omega arith)))
-
--- a page of an area has all its bytes
-pub page-length : (s : List ℕ) (i : ℕ) → i < pagesIn s → length (pageAt i s) ≡ pageBytes
-page-length s i l = length-take-le pageBytes (drop (i * pageBytes) s) (simp length-drop (omega arith))

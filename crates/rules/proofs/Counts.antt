@@ -1,16 +1,37 @@
--- The four change counts sum to the number of change entries, and the three transaction counts to the number of Begins.
+-- Counts and records of entries in two parts; the four change counts sum to the number of change entries, and the three transaction
+-- counts to the number of Begins.
 -- Assumes nothing.
 use mathlib.Core.Path.{_≡_, refl, ap, _∙_}
 use mathlib.Core.Bool.{Bool, true, false, not}
 use Prim.Native.Nat.{ℕ, zero, suc, _+_, _≤_}
 use native.Mathlib.Omega.{arith}
-use mathlib.Core.List.{List, [], _∷_}
+use mathlib.Core.List.{List, [], _∷_, _++_}
 use lib.Dec.{eqb}
-use Rattle.endian.specs.Pick.{pick}
+use Rattle.endian.specs.Pick.{pick, consIf}
 use Rattle.wal.specs.Entry.{Entry, commit, rollback}
 use Rattle.rules.specs.Shape.{both, isChange}
 use Rattle.rules.specs.Order.{one, count, any, is, isBegin}
-use Rattle.rules.specs.Recover.{outcomeOf, transactions, changesOf, changesZero}
+use Rattle.rules.specs.Recover.{outcomeOf, transactions, changesOf, changesZero, recordOf, recordsOf}
+
+-- ---- entries in two parts
+
+pub count-append : (f : Entry → Bool) (es fs : List Entry) → count f (es ++ fs) ≡ count f es + count f fs
+count-append f [] fs = omega arith
+count-append f (e ∷ es) fs = omega (arith, count-append f es fs)
+
+pub count-snoc : (f : Entry → Bool) (es : List Entry) (e : Entry) → count f (es ++ (e ∷ [])) ≡ count f es + one (f e)
+count-snoc f es e = count-append f es (e ∷ []) ∙ omega arith
+
+pub records-append : (all es fs : List Entry) → recordsOf all (es ++ fs) ≡ recordsOf all es ++ recordsOf all fs
+unfolding recordsOf
+records-append all [] fs = refl
+records-append all (e ∷ es) fs = rw (records-append all es fs) (go (isBegin e))
+  where
+    go : (b : Bool) → consIf b (recordOf all e) (recordsOf all es ++ recordsOf all fs) ≡ consIf b (recordOf all e) (recordsOf all es) ++ recordsOf all fs
+    go true = refl
+    go false = refl
+
+-- ---- the sums
 
 -- an outcome is one of three
 sum3 : (es : List Entry) (t : ℕ) → one (eqb (outcomeOf es t) 0) + one (eqb (outcomeOf es t) 1) + one (eqb (outcomeOf es t) 2) ≡ 1

@@ -22,7 +22,7 @@ use Rattle.rules.specs.Shape.{Change, both, either, isChange, isChanging
 use Rattle.rules.specs.Mend.{changes}
 use Rattle.rules.proofs.Tests.{both-true, false-true}
 use Rattle.rules.proofs.Slots.{Images}
-use Rattle.rules.proofs.OrderLaws.{Every}
+use Rattle.rules.proofs.OrderLaws.{Every, every-map, InTurn, all-shaped}
 
 pub record Image (t : List ℕ) : Type 0 where
   pub long : 24 ≤ length t
@@ -119,3 +119,9 @@ images-of P i k (e ∷ es) h = go (isChange e) (eqb (pageOf e) i) (eqb (slotOf e
     go true true false f r = r
     go true false c f r = r
     go false b c f r = r
+
+-- the images of each change on a slot are tuples, in entries that keep the order rules
+pub tuple-images : (full : ℕ → Bool) (es : List Entry) → InTurn full [] es → (i k : ℕ) → Images TupleGood (changes i k es)
+tuple-images full es h i k =
+    images-of TupleGood i k es
+    (every-map (λ e. isShaped e ≡ true) (λ e. isChange e ≡ true → TupleGood (beforeOf e) × TupleGood (afterOf e)) (λ e s c. images-good e c s) es (all-shaped full [] es h))

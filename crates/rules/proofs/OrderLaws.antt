@@ -5,15 +5,15 @@ use mathlib.Core.Bool.{Bool, true, false}
 use Prim.Native.Nat.{ℕ, zero, suc, _+_, _≤_, _<_, max}
 use native.Mathlib.Omega.{arith}
 use mathlib.Core.List.{List, [], _∷_, _++_, append-assoc, append-nil}
-use lib.Dec.{ltb}
-use borrow.Author.Tests.{ltb-true}
+use lib.Dec.{ltb, eqb}
+use borrow.Author.Tests.{ltb-true, eq-eqb}
 use Rattle.endian.specs.Pick.{pick}
-use Rattle.wal.specs.Entry.{Entry, sizeOf}
+use Rattle.wal.specs.Entry.{Entry, sizeOf, checkpoint}
 use Rattle.page.specs.declared.Verdict.{Verdict}
-use Rattle.rules.specs.Shape.{both, isKnown, isShaped, isOn, lsnOn}
+use Rattle.rules.specs.Shape.{both, isKnown, isChanging, isShaped, isOn, lsnOn}
 use Rattle.rules.specs.Order.{any, count, isBegin, lastLsn, inOrder, clashes, faultAfter, orElse, orderFrom}
 use Rattle.rules.specs.Mend.{lastOn}
-use Rattle.rules.proofs.Tests.{into, past}
+use Rattle.rules.proofs.Tests.{false-true, into, past}
 
 -- each of some entries
 abbrev pub Every : (Entry → Type 0) → List Entry → Type 0
@@ -48,6 +48,13 @@ passes full es e h =
     let g = past (both (isBegin e) (full (count isBegin es))) (λ z. omega arith) (f .1) in
     record { known = a .0; shaped = b .0; rises = ltb-true _ _ (c .0); ordered = d .0; apart = f .0; room = g .0 }
 
+-- a Begin, a Commit or a Rollback has a number
+pub numbered : (full : ℕ → Bool) (es : List Entry) (f : Entry) → Passes full es f → (k : ℕ) → isChanging k ≡ false → eqb k checkpoint ≡ false → f .kind ≡ k → f .txn ≡ 0 → ⊥
+unfolding inOrder
+numbered full es f h k c d e z =
+    let o : isChanging (f .kind) ≡ true = rw (e, d, eq-eqb (f .txn) 0 z, ← e) at (h .ordered) in
+    false-true (sym c ∙ ap isChanging (sym e) ∙ o)
+
 orElse-zero : (n at : ℕ) (v : Verdict) → orElse n at v .number ≡ 0 → (n ≡ 0) × (v .number ≡ 0)
 orElse-zero zero at v h = (refl, h)
 orElse-zero (suc n) at v h = absurd (omega arith)
@@ -75,7 +82,7 @@ last-snoc [] f = refl
 last-snoc (e ∷ []) f = refl
 last-snoc (e ∷ g ∷ es) f = last-snoc (g ∷ es) f
 
-lsn-le : (i : ℕ) (e : Entry) → lsnOn i e ≤ e .lsn
+pub lsn-le : (i : ℕ) (e : Entry) → lsnOn i e ≤ e .lsn
 unfolding lsnOn
 lsn-le i e = go (isOn i e)
   where

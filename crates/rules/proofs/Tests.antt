@@ -17,6 +17,14 @@ both-true false b h = false-true h
 pub true-both : {a b : Bool} → a ≡ true → b ≡ true → both a b ≡ true
 true-both {a} {b} h k = rw (h, k)
 
+pub both-none : (b : Bool) → both b false ≡ false
+both-none true = refl
+both-none false = refl
+
+pub either-none : (b : Bool) → either b false ≡ b
+either-none true = refl
+either-none false = refl
+
 pub either-false : (a b : Bool) → either a b ≡ false → (a ≡ false) × (b ≡ false)
 either-false true b h = false-true (sym h)
 either-false false b h = (refl, h)

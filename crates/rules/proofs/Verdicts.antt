@@ -1,6 +1,6 @@
 -- Recovery accepts exactly if the log is accepted, every touched page is lent, and each page is accepted.
 -- Assumes nothing.
-use mathlib.Core.Path.{_≡_, refl, sym, ap, _∙_}
+use mathlib.Core.Path.{_≡_, refl, ap, _∙_}
 use mathlib.Core.Bool.{Bool, true, false, not}
 use Prim.Native.Nat.{ℕ, zero, suc, _+_, _*_, _≤_, _<_, max}
 use native.Mathlib.Omega.{arith}
@@ -9,7 +9,7 @@ use native.Mathlib.Decide.{decLe}
 use mathlib.Core.List.{List, [], _∷_, _++_}
 use lib.ListN.{length}
 use lib.Dec.{ltb, leb, eqb}
-use borrow.Author.Tests.{ltb-true, ltb-false, leb-true, leb-false, eqb-true, eqb-false, lt-ltb, le-ltb, le-leb, lt-leb, eq-eqb, ne-eqb}
+use borrow.Author.Tests.{not-false, ltb-true, ltb-false, leb-true, leb-false, eqb-true, eqb-false, lt-ltb, le-ltb, le-leb, lt-leb, eq-eqb, ne-eqb}
 use Rattle.endian.specs.Pick.{pick}
 use Rattle.wal.specs.Entry.{Entry, sizeOf}
 use Rattle.wal.specs.Read.{first}
@@ -109,11 +109,7 @@ lent-one s i e = go (isChange e) (eqb (pageOf e) i) refl
     at q h =
         let z : pageOf e ≡ i = eqb-true _ _ q in
         let r = either-false (leb (pagesIn s) (pageOf e)) _ h in
-        rw (← z) (record { lent = leb-false _ _ (r .0); isData = eqb-true _ _ (flip (eqb (typeOf (pageAt (pageOf e) s)) dataType) (r .1)) })
-      where
-        flip : (b : Bool) → not b ≡ false → b ≡ true
-        flip true h = refl
-        flip false h = sym h
+        rw (← z) (record { lent = leb-false _ _ (r .0); isData = eqb-true _ _ (not-false _ (r .1)) })
 
     go : (a b : Bool) → eqb (pageOf e) i ≡ b
         → both a (either (leb (pagesIn s) (pageOf e)) (not (eqb (typeOf (pageAt (pageOf e) s)) dataType))) ≡ false

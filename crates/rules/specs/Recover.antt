@@ -1,11 +1,11 @@
 -- Recovery: from magic, floor LSN, page bytes, log bytes and table to the answer, every page byte and every record afterwards (paper 01, Numbers given back).
 use Prim.Native.Nat.{ℕ, zero, suc, _+_, _*_, max}
 use mathlib.Core.List.{List, [], _∷_, _++_}
-use mathlib.Core.Bool.{Bool, true, false, not}
+use mathlib.Core.Bool.{Bool, not}
 use lib.ListN.{length, drop}
 use lib.Dec.{ltb, leb, eqb}
 use Rattle.refusals.specs.Refusal.{pageArea, pageLsn, noDataPage, pageOverfull}
-use Rattle.endian.specs.Pick.{pick}
+use Rattle.endian.specs.Pick.{pick, consIf}
 use Rattle.wal.specs.Entry.{Entry, sizeOf, begin, commit, rollback}
 use Rattle.wal.specs.Read.{first}
 use Rattle.wal.specs.Walk.{entries, endOf}
@@ -87,10 +87,6 @@ recordOf es e =
     }
 
 -- one record per Begin, in log order
-abbrev pub consIf : {A : Type 0} → Bool → A → List A → List A
-consIf true x xs = x ∷ xs
-consIf false x xs = xs
-
 unfoldable pub recordsOf : List Entry → List Entry → List Record
 recordsOf all [] = []
 recordsOf all (e ∷ es) = consIf (isBegin e) (recordOf all e) (recordsOf all es)

@@ -1,6 +1,6 @@
 -- In entries that keep the order rules a number begins once, and 0 never.
 -- Assumes nothing.
-use mathlib.Core.Path.{_≡_, refl, sym, ap, _∙_}
+use mathlib.Core.Path.{_≡_, refl, _∙_}
 use mathlib.Core.Bool.{Bool, true, false}
 use Prim.Native.Nat.{ℕ, suc, _+_, _≤_}
 use native.Mathlib.Omega.{arith}
@@ -9,12 +9,12 @@ use lib.ListN.{length}
 use lib.Dec.{eqb}
 use borrow.Author.Tests.{eqb-true, eqb-false, eq-eqb}
 use Rattle.endian.specs.Pick.{pick}
-use Rattle.wal.specs.Entry.{Entry, begin, commit, rollback, checkpoint}
+use Rattle.wal.specs.Entry.{Entry, begin, commit, rollback}
 use Rattle.wal.specs.Prefix.{Met, before}
 use Rattle.rules.specs.Shape.{both, either, isChanging}
-use Rattle.rules.specs.Order.{one, count, is, isBegin, inOrder, neverFull}
-use Rattle.rules.proofs.Tests.{false-true}
-use Rattle.rules.proofs.OrderLaws.{Passes}
+use Rattle.rules.specs.Order.{one, count, is, isBegin, neverFull}
+use Rattle.rules.proofs.OrderLaws.{Passes, numbered}
+use Rattle.rules.proofs.Counts.{count-append}
 use Rattle.order.specs.State.{stateAfter, stateFrom, stateOf}
 use Rattle.order.proofs.States.{state-snoc}
 use Rattle.fates.specs.Fate.{Ordered}
@@ -23,13 +23,6 @@ use Rattle.fates.proofs.Endings.{of-other}
 
 -- ---- counts
 
-pub count-append : (f : Entry → Bool) (es fs : List Entry) → count f (es ++ fs) ≡ count f es + count f fs
-count-append f [] fs = omega arith
-count-append f (e ∷ es) fs = omega (arith, count-append f es fs)
-
-pub count-snoc : (f : Entry → Bool) (es : List Entry) (e : Entry) → count f (es ++ (e ∷ [])) ≡ count f es + one (f e)
-count-snoc f es e = count-append f es (e ∷ []) ∙ omega arith
-
 pub count-le : (f : Entry → Bool) (es : List Entry) → count f es ≤ length es
 count-le f [] = omega arith
 count-le f (e ∷ es) = go (f e) (count-le f es)
@@ -37,14 +30,6 @@ count-le f (e ∷ es) = go (f e) (count-le f es)
     go : (b : Bool) → count f es ≤ length es → one b + count f es ≤ suc (length es)
     go true h = omega arith
     go false h = omega arith
-
--- ---- a Begin, a Commit or a Rollback has a number
-
-pub numbered : (full : ℕ → Bool) (es : List Entry) (f : Entry) → Passes full es f → (k : ℕ) → isChanging k ≡ false → eqb k checkpoint ≡ false → f .kind ≡ k → f .txn ≡ 0 → ⊥
-unfolding inOrder
-numbered full es f h k c d e z =
-    let o : isChanging (f .kind) ≡ true = rw (e, d, eq-eqb (f .txn) 0 z, ← e) at (h .ordered) in
-    false-true (sym c ∙ ap isChanging (sym e) ∙ o)
 
 -- ---- one Begin
 

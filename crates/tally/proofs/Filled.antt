@@ -14,14 +14,16 @@ use Rattle.wal.specs.Entry.{Entry, begin, commit, rollback}
 use Rattle.rules.specs.Shape.{isChanging}
 use Rattle.rules.specs.Order.{one, count, is, isBegin}
 use Rattle.rules.specs.Recover.{recordOf, recordsOf}
-use Rattle.rules.proofs.OrderLaws.{Passes}
+use Rattle.rules.proofs.OrderLaws.{Passes, numbered}
+use Rattle.rules.proofs.Counts.{count-snoc, records-append}
+use Rattle.order.proofs.States.{changing}
 use Rattle.order.specs.State.{stateOf}
 use Rattle.fates.proofs.Turns.{AllTold, own-state}
 use Rattle.tally.specs.Flat.{four, flat, flatAfter}
 use Rattle.tally.specs.Filling.{Has, appended, marked, Ready, Entered, begins, stays, marks}
-use Rattle.tally.proofs.Begins.{count-snoc, count-le, numbered, Once}
-use Rattle.tally.proofs.Records.{set-behind, flat-append, records-append, length-flat, same-records, Nth, nth, begun-at, nth-read, nth-changed}
-use Rattle.tally.proofs.Updates.{changing, other-record, begin-record, commit-record, rollback-record, change-record}
+use Rattle.tally.proofs.Begins.{count-le, Once}
+use Rattle.tally.proofs.Records.{set-behind, flat-append, length-flat, same-records, Nth, nth, begun-at, nth-read, nth-changed}
+use Rattle.tally.proofs.Updates.{other-record, begin-record, commit-record, rollback-record, change-record}
 
 -- four numbers of a list
 drop-four : (d : List ℕ) (i : ℕ) → i + 4 ≤ length d → drop i d ≡ getD d i 0 ∷ getD d (i + 1) 0 ∷ getD d (i + 2) 0 ∷ getD d (i + 3) 0 ∷ drop (i + 4) d

@@ -14,22 +14,19 @@ use Rattle.wal.proofs.Prefix.{met-end, before-end}
 use Rattle.rules.specs.Shape.{both, either, isChanging}
 use Rattle.rules.specs.Order.{one, count, any, is, isBegin, neverFull}
 use Rattle.rules.specs.Recover.{outcomeOf, transactions}
-use Rattle.rules.proofs.OrderLaws.{Passes}
-use Rattle.rules.proofs.Counts.{transactions-sum}
+use Rattle.rules.proofs.Tests.{either-none}
+use Rattle.rules.proofs.OrderLaws.{Passes, numbered}
+use Rattle.rules.proofs.Counts.{count-append, transactions-sum}
 use Rattle.order.specs.State.{stateOf}
 use Rattle.fates.specs.Fate.{Ordered}
 use Rattle.fates.proofs.Turns.{AllTold, own-state, own-going, held-at}
 use Rattle.fates.proofs.Endings.{any-append, of-other, unended, outcome-unended}
-use Rattle.tally.proofs.Begins.{count-append, numbered, Once, once-none, once-next}
+use Rattle.tally.proofs.Begins.{Once, once-none, once-next}
 
 abbrev pub isKind : ℕ → Entry → Bool
 isKind k e = eqb (e .kind) k
 
 -- ---- outcomes after one entry more
-
-either-none : (b : Bool) → either b false ≡ b
-either-none true = refl
-either-none false = refl
 
 module _ (es : List Entry) (f : Entry) (u : ℕ) where
   after : outcomeOf (es ++ (f ∷ [])) u ≡ pick (either (any (is commit u) es) (either (is commit u f) false)) 1 (pick (either (any (is rollback u) es) (either (is rollback u f) false)) 2 0)

@@ -9,13 +9,14 @@ use lib.ListN.{length, getD, set, List·getD-append}
 use lib.Seq.{getD-append-add, set-append-left}
 use lib.Dec.{eqb}
 use borrow.Author.Tests.{eqb-true, eqb-false, eq-eqb}
+use Rattle.endian.specs.Pick.{consIf}
 use Rattle.wal.specs.Entry.{Entry, begin}
 use Rattle.rules.specs.Shape.{both}
 use Rattle.rules.specs.Order.{one, count, is, isBegin}
-use Rattle.rules.specs.Recover.{recordOf, recordsOf, consIf}
+use Rattle.rules.specs.Recover.{recordOf, recordsOf}
 use Rattle.rules.specs.declared.Record.{Record}
+use Rattle.rules.proofs.Counts.{count-append, records-append}
 use Rattle.tally.specs.Flat.{four, flat}
-use Rattle.tally.proofs.Begins.{count-append}
 
 -- ---- records in a row
 
@@ -23,15 +24,6 @@ pub flat-append : (rs qs : List Record) → flat (rs ++ qs) ≡ flat rs ++ flat 
 unfolding flat
 flat-append [] qs = refl
 flat-append (r ∷ rs) qs = rw (flat-append rs qs)
-
-pub records-append : (all es fs : List Entry) → recordsOf all (es ++ fs) ≡ recordsOf all es ++ recordsOf all fs
-unfolding recordsOf
-records-append all [] fs = refl
-records-append all (e ∷ es) fs = rw (records-append all es fs) (go (isBegin e))
-  where
-    go : (b : Bool) → consIf b (recordOf all e) (recordsOf all es ++ recordsOf all fs) ≡ consIf b (recordOf all e) (recordsOf all es) ++ recordsOf all fs
-    go true = refl
-    go false = refl
 
 pub length-flat : (all es : List Entry) → length (flat (recordsOf all es)) ≡ 4 * count isBegin es
 unfolding flat recordsOf

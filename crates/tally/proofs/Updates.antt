@@ -8,34 +8,17 @@ use mathlib.Core.List.{List, [], _∷_, _++_}
 use lib.ListN.{set}
 use lib.Dec.{eqb}
 use borrow.Author.Tests.{eq-eqb, ne-eqb}
-use Rattle.endian.specs.Pick.{pick}
 use Rattle.wal.specs.Entry.{Entry, begin, commit, rollback, checkpoint}
-use Rattle.rules.specs.Shape.{both, either, isKnown, isChange, isChanging}
+use Rattle.rules.specs.Shape.{both, isKnown, isChange, isChanging}
 use Rattle.rules.specs.Order.{one, count}
 use Rattle.rules.specs.Recover.{outcomeOf, recordOf}
-use Rattle.rules.proofs.OrderLaws.{Passes}
-use Rattle.order.specs.State.{stateAfter, stateFrom, stateOf}
-use Rattle.order.proofs.States.{checkpoint-zero}
+use Rattle.rules.proofs.OrderLaws.{Passes, numbered}
+use Rattle.rules.proofs.Counts.{count-append}
+use Rattle.order.specs.State.{stateOf}
+use Rattle.order.proofs.States.{changing, none-changed, checkpoint-zero}
 use Rattle.fates.proofs.Turns.{AllTold, own-state}
 use Rattle.tally.specs.Flat.{four}
-use Rattle.tally.proofs.Begins.{count-append, numbered}
 use Rattle.tally.proofs.Outcomes.{outcome-plain, outcome-other, outcome-own, outcome-commit, outcome-rollback}
-
--- a change of transaction t
-abbrev pub changing : ℕ → Entry → Bool
-changing t f = both (isChange f) (eqb (f .txn) t)
-
--- a transaction that has not begun has no change
-none-before : (t s : ℕ) (es : List Entry) → stateFrom t s es ≡ 0 → (s ≡ 0) × (count (changing t) es ≡ 0)
-unfolding stateFrom stateAfter
-none-before t s [] h = (h, refl)
-none-before t s (e ∷ es) h = go (eqb (e .txn) t) (either (eqb (e .kind) commit) (eqb (e .kind) rollback)) (isChange e) (none-before t _ es h)
-  where
-    go : (w b c : Bool) → (pick w (pick b 2 1) s ≡ 0) × (count (changing t) es ≡ 0) → (s ≡ 0) × (one (both c w) + count (changing t) es ≡ 0)
-    go true true c k = absurd (omega arith)
-    go true false c k = absurd (omega arith)
-    go false b true k = (k .0, omega arith)
-    go false b false k = (k .0, omega arith)
 
 module _ (es : List Entry) (f : Entry) where
   -- an entry changes no record of another transaction
@@ -64,7 +47,7 @@ module _ (full : ℕ → Bool) (es : List Entry) (f : Entry) (h : Passes full es
       let n : f .txn ≡ 0 → ⊥ = numbered full es f h begin refl refl k in
       let s : stateOf (f .txn) es ≡ 0 = own-state full es f h told n ∙ rw k in
       let o : outcomeOf (es ++ (f ∷ [])) (f .txn) ≡ 0 = outcome-plain es f (f .txn) (rw k) (rw k) ∙ outcome-own full es f h told n in
-      let c : count (changing (f .txn)) (es ++ (f ∷ [])) ≡ 0 = no-change es f (f .txn) (rw k) ∙ none-before (f .txn) 0 es s .1 in
+      let c : count (changing (f .txn)) (es ++ (f ∷ [])) ≡ 0 = no-change es f (f .txn) (rw k) ∙ none-changed (f .txn) 0 es s .1 in
       rw (o, c)
 
   -- the record of the transaction of an ending

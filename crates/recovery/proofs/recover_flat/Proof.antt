@@ -8,7 +8,8 @@ use borrow.Author.Needs.{needs}
 use Rattle.rules.specs.Order.{fullAt}
 use Rattle.rules.specs.Recover.{recoverVerdict}
 use Rattle.rules.specs.declared.Answer.{Answer}
-use Rattle.recovery.proofs.Outcome.{Sure, sure, answer-zero, answer-refused, answer-tail, begins-of, flat-answer, flat-pages, flat-done, flat-refused}
+use Rattle.rules.proofs.Again.{answer-zero}
+use Rattle.recovery.proofs.Outcome.{Sure, sure, answer-refused, answer-tail, begins-of, flat-answer, flat-pages, flat-done, flat-refused}
 use Rattle.recovery.proofs.recover_flat.Statement.{statement}
 use Rattle.recovery.proofs.recover_flat.Tie as tie
 

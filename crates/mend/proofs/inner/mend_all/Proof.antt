@@ -6,9 +6,10 @@ use Rattle.endian.specs.Numbers.{Bytes}
 use Rattle.wal.specs.Walk.{entries}
 use Rattle.fates.specs.Fate.{Memo}
 use Rattle.cells.specs.Cell.{startOf}
-use Rattle.cells.proofs.Sums.{starts-steps, group-fits}
+use Rattle.cells.proofs.Sums.{group-fits}
+use Rattle.images.proofs.Deciding.{steps}
 use Rattle.mend.proofs.Areas.{touched-le}
-use Rattle.mend.proofs.Groups.{Mended, mended-none, mended-group, mended-all, group-touched, group-fitting, few-cells}
+use Rattle.mend.proofs.Groups.{Mended, mended-none, mended-group, mended-all, group-touched, group-fitting}
 use Rattle.mend.proofs.inner.mend_all.Statement.{statement}
 use Rattle.mend.proofs.inner.mend_all.Tie as tie
 
@@ -38,7 +39,7 @@ group-end-requires : tie.Need-group-end-requires Inv-loop μ-loop
 group-end-requires c κs =
     let k = c .before .before .before in
     let p = k .before .pre in
-    ((c .loop-test .taken, p .1 .1 .1 .1 .1 .1 .1 .3), starts-steps _ _ _ (few-cells (bytes k)) (p .1 .1 .1 .0))
+    ((c .loop-test .taken, p .1 .1 .1 .1 .1 .1 .1 .3), steps (bytes k) (p .1 .1 .1 .0))
 
 decide-requires : tie.Need-decide-requires Inv-loop μ-loop
 decide-requires c κs =

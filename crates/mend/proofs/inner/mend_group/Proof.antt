@@ -4,8 +4,9 @@ use native.Mathlib.Omega.{arith}
 use lib.ListN.{length}
 use Rattle.wal.specs.Walk.{entries}
 use Rattle.rules.specs.Recover.{isTouched}
+use Rattle.images.proofs.Deciding.{page-cells}
 use Rattle.mend.proofs.Areas.{touched-le, one-le}
-use Rattle.mend.proofs.Groups.{Mending, mending-none, mending-page, mending-next, mending-all, page-cells, last-known}
+use Rattle.mend.proofs.Groups.{Mending, mending-none, mending-page, mending-next, mending-all, last-known}
 use Rattle.mend.proofs.inner.mend_group.Statement.{statement}
 use Rattle.mend.proofs.inner.mend_group.Tie as tie
 
@@ -33,7 +34,7 @@ mend-page-requires c κs =
       (
         p .1 .0,
         (
-          page-cells (p .1 .1 .0) (p .1 .1 .1 .0) (q .1) (q .3) (q .4) (m .from) high,
+          page-cells _ (p .1 .1 .0) (p .1 .1 .1 .0) (m .from) high (q .3) (q .1) (q .4),
           (
             λ t. last-known (p .1 .1 .1 .1 .0) (omega (arith, q .3)) t,
             (

@@ -3,22 +3,23 @@ use Prim.Native.Nat.{ℕ}
 use native.Mathlib.Omega.{arith}
 use lib.ListN.{length, length-take, length-drop, length-replicate}
 use borrow.Author.Needs.{needs}
+use Rattle.images.proofs.Deciding.{next-start, slots-are}
 use Rattle.mend.proofs.Filling.{wanted-few}
-use Rattle.mend.proofs.Heads.{cells-of, slots-for-page, repacked-is}
+use Rattle.mend.proofs.Heads.{repacked-is}
 use Rattle.mend.proofs.inner.repack.Statement.{statement}
 use Rattle.mend.proofs.inner.repack.Tie as tie
 
 slots-for-requires : tie.Need-slots-for-requires
 slots-for-requires c κs =
     let p = c .before .before .before .pre .1 .1 .1 in
-    (p .1 .0 .size, p .0 .few, omega (arith, cells-of (p .0)))
+    (p .1 .0 .size, p .0 .few, omega (arith, next-start (p .0)))
 
 fill-requires : tie.Need-fill-requires
 fill-requires c κs =
     let n = c .before in
     let s = n .before .before .before .before in
     let p = s .pre .1 in
-    (p .0, (p .1 .0, (p .1 .1 .0, (p .1 .1 .1 .0, (slots-for-page (p .1 .1 .0) (s .args .page .now) (n .slots-for .ensures), p .1 .1 .1 .1 .1)))))
+    (p .0, (p .1 .0, (p .1 .1 .0, (p .1 .1 .1 .0, (n .slots-for .ensures ∙ slots-are (p .1 .1 .0) _, p .1 .1 .1 .1 .1)))))
 
 long : (c : tie.After-fill) → length (c .fill .last .0) ≡ 16384
 long c = c .fill .kept .0 ∙ ap length (c .before .before .before .before .before .before .pre .1 .0) ∙ length-replicate {0} {A = ℕ} 16384 0
@@ -35,7 +36,7 @@ seal-requires c κs =
       (
         long f,
         simp (length-take, length-drop) (omega (arith, size)),
-        wanted-few (a .log .now) (a .page .now) (a .i) _ (slots-for-page (p .1 .1 .1 .0) (a .page .now) (n .slots-for .ensures)) (p .1 .1 .1 .1 .1 .1),
+        wanted-few (a .log .now) (a .page .now) (a .i) _ (n .slots-for .ensures ∙ slots-are (p .1 .1 .1 .0) _) (p .1 .1 .1 .1 .1 .1),
         omega (arith, f .fill .ensures .0),
       ),
     )
@@ -49,7 +50,7 @@ returns c =
     let s = n .before .before .before .before in
     let p = s .pre in
     repacked-is (p .1 .1 .1 .1 .1 .0) (f .fill .last .0) (record { magic = h .0; kind = h .1; id = h .2; lsn = h .3 })
-    (slots-for-page (p .1 .1 .1 .0) (s .args .page .now) (n .slots-for .ensures)) (long f) (f .fill .ensures .0) (f .fill .ensures .1) (l .seal .ensures)
+    (n .slots-for .ensures ∙ slots-are (p .1 .1 .1 .0) _) (long f) (f .fill .ensures .0) (f .fill .ensures .1) (l .seal .ensures)
 
 pub repack-spec : {M : Type 1} → statement M
 repack-spec =

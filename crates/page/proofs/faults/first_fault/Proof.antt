@@ -6,8 +6,8 @@ use borrow.Author.Tests.{not-true, not-false}
 use borrow.Author.Needs.{needs}
 use Rattle.page.specs.declared.Fault.the-variants.{Sound}
 use Rattle.page.specs.Fault.{sharesEarlier, slotsFault}
-use Rattle.page.specs.Layout.{bodyOf}
-use Rattle.page.proofs.SlotLaws.{earlier-more, earlier-one, faulty-not, faulty-itself, faulty-shares, slots-start, slots-next, slots-hit, slots-end}
+use Rattle.page.specs.Layout.{bodyOf, slotLen}
+use Rattle.page.proofs.SlotLaws.{earlier-empty, earlier-more, earlier-one, faulty-itself, faulty-shares, slots-start, slots-next, slots-hit, slots-end}
 use Rattle.page.proofs.faults.first_fault.Statement.{statement}
 use Rattle.page.proofs.faults.first_fault.Tie as tie
 
@@ -26,6 +26,16 @@ abbrev μ-slots : tie.MeasureT-slots
 slots-holds : tie.Need-slots-holds Inv-earlier μ-earlier Inv-slots μ-slots
 slots-holds c = (refl, omega arith, slots-start _ _ _)
 
+slots-again : tie.Need-slots-again Inv-earlier μ-earlier Inv-slots μ-slots
+slots-again c =
+    let f = c .before .before in
+    let s = f .before .before .before .slots in
+    let z : slotLen _ _ ≡ 0 = sym (c .before .slot-len .ensures .0) ∙ c .if2 .taken in (
+      s .inv .0,
+      omega arith,
+      slots-next _ _ _ _ (omega arith) (sym (f .before .slot-fits .ensures) ∙ not-false _ (f .if1 .left)) (earlier-empty _ _ z _) ∙ s .inv .2,
+    )
+
 earlier-holds : tie.Need-earlier-holds Inv-earlier μ-earlier Inv-slots μ-slots
 unfolding sharesEarlier
 earlier-holds c = search needs
@@ -33,18 +43,18 @@ earlier-holds c = search needs
 earlier-again : tie.Need-earlier-again Inv-earlier μ-earlier Inv-slots μ-slots
 earlier-again c =
     let e = c .before .before .before .earlier .inv in
-    (e .0, omega arith, earlier-more _ _ _ (e .2) (sym (c .before .shares .ensures) ∙ c .if2 .left))
+    (e .0, omega arith, earlier-more _ _ _ (e .2) (sym (c .before .shares .ensures) ∙ c .if3 .left))
 
-slots-again : tie.Need-slots-again Inv-earlier μ-earlier Inv-slots μ-slots
-slots-again c =
+slots-again-2 : tie.Need-slots-again-2 Inv-earlier μ-earlier Inv-slots μ-slots
+slots-again-2 c =
     let e = c .before .earlier in
-    let f = c .before .before in
+    let f = c .before .before .before .before in
     let s = f .before .before .before .slots in
     let z : e .j ≡ s .k = omega arith in
     let none = rw z at (e .inv .2) in (
       e .inv .0,
       omega arith,
-      sym (slots-next _ _ _ _ (omega arith) (faulty-not _ _ _ (sym (f .before .slot-fits .ensures) ∙ not-false _ (f .if1 .left)) none)) ∙ s .inv .2,
+      slots-next _ _ _ _ (omega arith) (sym (f .before .slot-fits .ensures) ∙ not-false _ (f .if1 .left)) none ∙ s .inv .2,
     )
 
 returns : tie.Need-returns Inv-earlier μ-earlier Inv-slots μ-slots
@@ -60,12 +70,12 @@ returns-2 c =
 returns-3 : tie.Need-returns-3 Inv-earlier μ-earlier Inv-slots μ-slots
 returns-3 c =
     let e = c .before .before .before in
-    let f = e .before in
+    let f = e .before .before .before in
     let s = f .before .before .before .slots in
     sym (slots-hit _ _ _ (s .k) (search needs) (faulty-shares _ _ _ (sym (f .before .slot-fits .ensures) ∙ not-false _ (f .if1 .left))
-    (earlier-one _ _ _ (e .earlier .j) (search needs) (sym (c .before .shares .ensures) ∙ c .if2 .taken)))) ∙ s .inv .2
+    (earlier-one _ _ _ (e .earlier .j) (search needs) (sym (c .before .shares .ensures) ∙ c .if3 .taken)))) ∙ s .inv .2
 
 pub first-fault-spec : {M : Type 1} → statement M
 first-fault-spec =
     tie.close
-    (tie.spec Inv-earlier μ-earlier Inv-slots μ-slots slots-holds (λ c κs. search needs) earlier-holds (λ c κs. search needs) (λ c. search needs) (λ c. search needs) earlier-again (λ c. search needs) (λ c. search needs) slots-again returns returns-2 returns-3)
+    (tie.spec Inv-earlier μ-earlier Inv-slots μ-slots slots-holds (λ c κs. search needs) (λ c κs. search needs) (λ c. search needs) (λ c. search needs) slots-again earlier-holds (λ c κs. search needs) (λ c. search needs) (λ c. search needs) earlier-again (λ c. search needs) (λ c. search needs) slots-again-2 returns returns-2 returns-3)

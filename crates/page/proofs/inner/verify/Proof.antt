@@ -1,18 +1,14 @@
-use mathlib.Core.Path.{_∙_}
-use native.Mathlib.Omega.{arith}
+use mathlib.Core.Path.{sym, _∙_}
 use borrow.Author.Needs.{needs}
-use Rattle.page.proofs.Verdicts.{case-rest, case-many, case-search}
+use Rattle.page.proofs.Verdicts.{case-size, case-search}
 use Rattle.page.proofs.inner.verify.Statement.{statement}
 use Rattle.page.proofs.inner.verify.Tie as tie
 
 returns : tie.Need-returns
-returns c = case-rest _ _ (omega arith)
+returns c = case-size _ _ (sym (c .before .size-wrong .ensures) ∙ c .if1 .taken)
 
 returns-2 : tie.Need-returns-2
-returns-2 c = case-many _ _ (omega arith) (omega arith)
-
-returns-3 : tie.Need-returns-3
-returns-3 c = c .first-bad .ensures ∙ case-search _ _ (omega arith) (omega arith)
+returns-2 c = c .first-bad .ensures ∙ case-search _ _ (sym (c .before .before .size-wrong .ensures) ∙ c .before .if1 .left)
 
 pub verify-spec : {M : Type 1} → statement M
-verify-spec = tie.close (tie.spec returns returns-2 (λ c κs. search needs) returns-3)
+verify-spec = tie.close (tie.spec (λ c κs. search needs) returns (λ c κs. search needs) returns-2)

@@ -4,9 +4,10 @@ use mathlib.Core.Path.{_≡_, sym, _∙_}
 use native.Mathlib.Omega.{arith}
 use borrow.Author.Needs.{needs}
 use Rattle.page.specs.Layout.{dataType, pageAt, typeOf}
+use Rattle.page.proofs.Reading.{type-at}
 use Rattle.images.specs.Page.{Sound}
 use Rattle.recovery.proofs.Outcome.{Sure, sure, sound-page, verdict-refused, verdict-zero}
-use Rattle.recovery.proofs.Spots.{type-at, row-refused, row-beyond, row-accepted, spot-refused, spot-none, spot-found}
+use Rattle.recovery.proofs.Spots.{row-refused, row-beyond, row-accepted, spot-refused, spot-none, spot-found}
 use Rattle.recovery.proofs.row.look.Statement.{statement}
 use Rattle.recovery.proofs.row.look.Tie as tie
 

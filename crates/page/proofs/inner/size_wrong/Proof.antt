@@ -1,8 +1,7 @@
-use mathlib.Core.Path.{_≡_}
 use native.Mathlib.Omega.{arith}
-use Rattle.recovery.proofs.Judging.{size-rest, size-many}
-use Rattle.recovery.proofs.judge.size_wrong.Statement.{statement}
-use Rattle.recovery.proofs.judge.size_wrong.Tie as tie
+use Rattle.page.proofs.Verdicts.{size-rest, size-many}
+use Rattle.page.proofs.inner.size_wrong.Statement.{statement}
+use Rattle.page.proofs.inner.size_wrong.Tie as tie
 
 returns : tie.Need-returns
 returns c = size-rest _ (omega arith)
