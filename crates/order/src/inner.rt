@@ -25,7 +25,7 @@ use wal::inner::entry_at;
 use wal::inner::place_before;
 
 // The state of a transaction whose newest entry has this type.
-fn state_after(kind: u8) -> u64
+pub fn state_after(kind: u8) -> u64
     ensures { λ r. ⌜ r ≡ stateAfter kind ⌝ }
 {
     if kind == 2 {
@@ -56,7 +56,7 @@ pub fn look_back(log: &[u8], place: usize, t: u64) -> u64
 }
 
 // The state of transaction t before `at`.
-pub fn state_at(log: &[u8], at: usize, hints: &[u32; 16384], t: u64) -> u64
+fn state_at(log: &[u8], at: usize, hints: &[u32; 16384], t: u64) -> u64
     requires { ⌜ Hints (now log) at (now hints) ⌝ }
     ensures { λ r. ⌜ r ≡ stateOf t (before (now (log .entry)) at) ⌝ }
 {
@@ -79,7 +79,7 @@ fn state_before(log: &[u8], at: usize, hints: &[u32; 16384], highs: &[u64; 16384
 }
 
 // Notes that an entry of transaction t, which stands at `at`, ends at next.
-pub fn mark(log: &[u8], at: usize, next: usize, t: u64, hints: &mut [u32; 16384])
+fn mark(log: &[u8], at: usize, next: usize, t: u64, hints: &mut [u32; 16384])
     requires { ⌜ (length (now log) ≤ 16777216) × (next ≡ at + lengthAt (now log) at) × (t ≡ said (now log) at .txn) ⌝ }
     requires { ⌜ Met (now log) at ⌝ }
     requires { ⌜ Stands (now log) at ⌝ }
