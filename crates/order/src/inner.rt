@@ -5,7 +5,7 @@ ghost use lib.ListN.{length};
 ghost use lib.Dec.{eqb};
 ghost use Rattle.endian.specs.Numbers.{part};
 ghost use Rattle.wal.specs.Entry.{entryOf};
-ghost use Rattle.wal.specs.Read.{lengthAt};
+ghost use Rattle.wal.specs.Read.{first, lengthAt};
 ghost use Rattle.wal.specs.Prefix.{Met, Stands, said, before};
 ghost use Rattle.wal.proofs.WalkLaws.{EntryAt};
 ghost use Rattle.crc32c.specs.Tables.{Tables};
@@ -336,12 +336,18 @@ fn counted(begins: u64, kind: u8) -> u64
 }
 
 // The first walk: checksums, and all rules but that on clashes.
-pub fn walk(t: &[u32; 2048], log: &[u8], bounded: bool, records: u64) -> Walked
+pub fn walk(
+    t: &[u32; 2048],
+    log: &[u8],
+    bounded: bool,
+    records: u64,
+    hints: &mut [u32; 16384],
+) -> Walked
     requires { ⌜ Tables (now t) ⌝ }
     requires { ⌜ length (now log) ≤ 16777216 ⌝ }
+    requires { ⌜ Hints (now log) first (now hints) ⌝ }
     ensures { λ r. ⌜ FirstWalk (fullOf bounded records) (now (log .entry)) r ⌝ }
 {
-    let mut hints = [32u32; 16384];
     let mut highs = [0u64; 16384];
     let mut at = FIRST;
     let mut last: u64 = 0;
@@ -357,7 +363,7 @@ pub fn walk(t: &[u32; 2048], log: &[u8], bounded: bool, records: u64) -> Walked
             };
         };
         let full = is_full(bounded, records, begins);
-        let number = fault_at(log, v, &hints, &highs, last, full);
+        let number = fault_at(log, v, hints, &highs, last, full);
         if number != 0 {
             return Walked {
                 number: number,
@@ -366,7 +372,7 @@ pub fn walk(t: &[u32; 2048], log: &[u8], bounded: bool, records: u64) -> Walked
             };
         }
         let next = at + v.length;
-        mark(log, at, next, v.txn.0, &mut hints);
+        mark(log, at, next, v.txn.0, hints);
         raise(&mut highs, v.txn.0);
         begins = counted(begins, v.kind);
         last = v.lsn.0;
