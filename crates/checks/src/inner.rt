@@ -16,6 +16,7 @@ ghost use Rattle.rules.specs.Shape.{isShaped};
 ghost use Rattle.rules.specs.Recover.{pagesFrom, isStray, strayFrom};
 ghost use Rattle.cells.specs.Measure.{Sound};
 ghost use Rattle.order.specs.First.{fullOf};
+ghost use Rattle.order.specs.Hints.{Hints};
 ghost use Rattle.checks.specs.Judged.{Judged, pageNumber, pagesBy};
 use cells::inner::measure;
 use cells::inner::page_at;
@@ -48,9 +49,11 @@ pub fn judge_log(
     starts: &mut [u32; 4097],
     lasts: &mut [u32; 4096],
     cells: &mut [u32; 131072],
+    hints: &mut [u32; 16384],
 ) -> Walked
     requires { ⌜ Tables (now t) ⌝ }
     requires { ⌜ n ≤ 4096 ⌝ }
+    requires { ⌜ Hints (now log) first (now hints) ⌝ }
     ensures { λ r. ⌜ Judged (fullOf bounded records) (now (log .entry)) n (now (starts .exit)) (now (lasts .exit)) r ⌝ }
 {
     let number = header_fault(log);
@@ -61,7 +64,7 @@ pub fn judge_log(
             last: Lsn(0),
         };
     }
-    let w = walk(t, log, bounded, records);
+    let w = walk(t, log, bounded, records, hints);
     let beyond = measure(log, w.place, n, starts, lasts);
     let at = clash(log, w.place, n, beyond, starts, cells);
     if at < w.place {

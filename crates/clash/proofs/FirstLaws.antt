@@ -9,11 +9,11 @@ use lib.ListN.{replicate}
 use Rattle.wal.specs.Read.{lengthAt}
 use Rattle.wal.specs.Prefix.{Met, Stands, said, before}
 use Rattle.wal.proofs.Prefix.{met-first, met-next, met-from, met-below, Below}
-use Rattle.order.specs.Hints.{Hints}
-use Rattle.order.proofs.HintLaws.{hints-first}
 use Rattle.rules.proofs.Tests.{both-true}
+use Rattle.clash.specs.Open.{Opens}
 use Rattle.clash.specs.First.{isIn, clashIn, FirstIn}
 use Rattle.clash.specs.Group.{Group, cellFor, noted}
+use Rattle.clash.proofs.OpenLaws.{opens-first}
 use Rattle.clash.proofs.GroupLaws.{next-group}
 
 -- no clash on a page of the group before p
@@ -33,16 +33,16 @@ clean-next lo hi s p m h z c = record { none = λ q n l. go q n l (decLt q p) (�
     go q n l (no b) (no e) = absurd (omega (arith, met-below s m n (omega arith) .next))
 
 -- ---- a walk for clashes
-pub record Sweeping (s hints : List ℕ) (limit lo hi at : ℕ) : Type 0 where
+pub record Sweeping (s opens : List ℕ) (limit lo hi at : ℕ) : Type 0 where
   pub met : Met s at
   pub upTo : at ≤ limit
-  pub hinted : Hints s at hints
+  pub told : Opens s at opens
   pub clean : Clean lo hi s at
 
-pub sweeping-first : {s : List ℕ} {limit : ℕ} (lo hi : ℕ) → Met s limit → Sweeping s (replicate 16384 32) limit lo hi 32
-sweeping-first {s} lo hi m = record { met = met-first s; upTo = met-from s m; hinted = hints-first s; clean = clean-first lo hi s }
+pub sweeping-first : {s : List ℕ} {limit : ℕ} (lo hi : ℕ) → Met s limit → Sweeping s (replicate 65536 0) limit lo hi 32
+sweeping-first {s} lo hi m = record { met = met-first s; upTo = met-from s m; told = opens-first s; clean = clean-first lo hi s }
 
-module _ {s hints : List ℕ} {limit lo hi at : ℕ} (k : Sweeping s hints limit lo hi at) (end : Met s limit) where
+module _ {s opens : List ℕ} {limit lo hi at : ℕ} (k : Sweeping s opens limit lo hi at) (end : Met s limit) where
   -- at the limit there was none
   pub none-found : limit ≤ at → FirstIn lo hi s limit limit
   none-found h =
@@ -61,12 +61,12 @@ module _ {s hints : List ℕ} {limit lo hi at : ℕ} (k : Sweeping s hints limit
     one-found c = record { met = k .met; low = k .upTo; none = k .clean .none; some = λ l. both-true (isIn lo hi (said s at)) _ c .1 }
 
     -- an entry more
-    pub sweeping-next : (hints2 : List ℕ) (next : ℕ) → clashIn lo hi s at ≡ false → next ≡ at + lengthAt s at → Hints s next hints2 → Sweeping s hints2 limit lo hi next
-    sweeping-next hints2 next z e g =
+    pub sweeping-next : (opens2 : List ℕ) (next : ℕ) → clashIn lo hi s at ≡ false → next ≡ at + lengthAt s at → Opens s (at + lengthAt s at) opens2 → Sweeping s opens2 limit lo hi next
+    sweeping-next opens2 next z e g =
         record {
           met = subst (Met s) (sym e) (met-next s (k .met) sweeping-stands);
           upTo = omega (arith, here .next);
-          hinted = g;
+          told = subst (λ (x : ℕ). Opens s x opens2) (sym e) g;
           clean = subst (Clean lo hi s) (sym e) (clean-next lo hi s at (k .met) sweeping-stands z (k .clean));
         }
 

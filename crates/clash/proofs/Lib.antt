@@ -1,4 +1,5 @@
 pub mod NewestLaws
+pub mod OpenLaws
 pub mod GroupLaws
 pub mod FirstLaws
 pub mod VerdictLaws

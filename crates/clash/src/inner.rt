@@ -1,15 +1,18 @@
 // The first clash of a log, by one walk for each group of pages.
 ghost use mathlib.Core.Path.{_≡_};
 ghost use mathlib.Core.Bool.{true, false};
-ghost use Prim.Native.Nat.{_+_, _-_, _^_, _≤_, _<_};
+ghost use Prim.Native.Nat.{_+_, _-_, _%_, _^_, _≤_, _<_};
 ghost use lib.ListN.{length, getD};
+ghost use lib.Dec.{eqb};
+ghost use Rattle.wal.specs.Read.{lengthAt};
 ghost use Rattle.wal.specs.Prefix.{Met, Stands, said, before};
 ghost use Rattle.rules.specs.Shape.{isChange, isShaped, pageOf, slotOf};
 ghost use Rattle.order.specs.Clash.{clashAfter};
-ghost use Rattle.order.specs.Hints.{Hints};
+ghost use Rattle.order.specs.State.{stateOf};
 ghost use Rattle.cells.specs.Cell.{Starts, Blank};
 ghost use Rattle.cells.specs.Measure.{Sound, FirstBeyond};
 ghost use Rattle.clash.specs.Newest.{onSlot, newestOn, txnBy};
+ghost use Rattle.clash.specs.Open.{isOf, Open, Opens};
 ghost use Rattle.clash.specs.First.{Shaped, clashIn, FirstIn};
 ghost use Rattle.clash.specs.Group.{Known, Ground, cellFor, noted};
 use cells::inner::cell_at;
@@ -19,16 +22,83 @@ use cells::inner::page_at;
 use endian::inner::u16_at;
 use endian::inner::u64_at;
 use order::inner::is_change;
-use order::inner::mark;
-use order::inner::state_at;
+use order::inner::look_back;
+use order::inner::state_after;
 use wal::FIRST;
 use wal::inner::place_before;
 use wal::inner::standing;
 
+// Whether v is a place whose entry is of transaction t.
+fn is_of(log: &[u8], t: u64, v: u32) -> bool
+    requires { ⌜ (1 < v → v + 20 ≤ length (now log)) ⌝ }
+    ensures { λ r. ⌜ r ≡ isOf (now (log .entry)) t v ⌝ }
+{
+    if v <= 1 {
+        return false;
+    }
+    u64_at(log, v as usize + 12) == t
+}
+
+// What is kept for the remainder of transaction t behind its entry at `at`; v was kept before it.
+fn entered(log: &[u8], at: usize, kind: u8, t: u64, v: u32) -> u32
+    requires { ⌜ (length (now log) ≤ 16777216) × (kind ≡ said (now log) at .kind) × (t ≡ said (now log) at .txn) ⌝ }
+    requires { ⌜ Met (now log) at ⌝ }
+    requires { ⌜ Stands (now log) at ⌝ }
+    requires { ⌜ Open (now log) at (t % 65536) v ⌝ }
+    ensures { λ r. ⌜ Open (now (log .entry)) (at + lengthAt (now (log .entry)) at) (t % 65536) r ⌝ }
+{
+    let own = is_of(log, t, v);
+    if state_after(kind) == 1 {
+        if own {
+            return v;
+        }
+        if v == 0 {
+            return at as u32;
+        }
+        return 1;
+    }
+    if own {
+        return 0;
+    }
+    v
+}
+
+// Notes the entry at `at`, of transaction t. Of transaction 0 nothing is kept: none clashes with it.
+fn enter(log: &[u8], at: usize, kind: u8, t: u64, opens: &mut [u32; 65536])
+    requires { ⌜ (length (now log) ≤ 16777216) × (kind ≡ said (now log) at .kind) × (t ≡ said (now log) at .txn) ⌝ }
+    requires { ⌜ Met (now log) at ⌝ }
+    requires { ⌜ Stands (now log) at ⌝ }
+    requires { ⌜ Opens (now log) at (now opens) ⌝ }
+    ensures { λ _. ⌜ Opens (now (log .entry)) (at + lengthAt (now (log .entry)) at) (now (opens .exit)) ⌝ }
+{
+    if t == 0 {
+        return;
+    }
+    let r = (t % 65536) as usize;
+    let v = entered(log, at, kind, t, opens[r]);
+    opens[r] = v;
+}
+
+// Whether transaction u is open before `at`; by stepping backward where nothing is known of its remainder.
+fn is_open(log: &[u8], at: usize, opens: &[u32; 65536], u: u64) -> bool
+    requires { ⌜ 0 < u ⌝ }
+    requires { ⌜ Met (now log) at ⌝ }
+    requires { ⌜ Opens (now log) at (now opens) ⌝ }
+    ensures { λ r. ⌜ r ≡ eqb (stateOf u (before (now (log .entry)) at)) 1 ⌝ }
+{
+    let r = (u % 65536) as usize;
+    let v = opens[r];
+    if v == 1 {
+        return look_back(log, at, u) == 1;
+    }
+    is_of(log, u, v)
+}
+
 // Whether the change at `at`, by transaction t, clashes with the newest one on its slot, which is by transaction u.
-fn clashes_with(log: &[u8], at: usize, t: u64, u: u64, hints: &[u32; 16384]) -> bool
+fn clashes_with(log: &[u8], at: usize, t: u64, u: u64, opens: &[u32; 65536]) -> bool
     requires { ⌜ (t ≡ said (now log) at .txn) × (isChange (said (now log) at) ≡ true) × (u ≡ newestOn (pageOf (said (now log) at)) (slotOf (said (now log) at)) 0 (before (now log) at)) ⌝ }
-    requires { ⌜ Hints (now log) at (now hints) ⌝ }
+    requires { ⌜ Met (now log) at ⌝ }
+    requires { ⌜ Opens (now log) at (now opens) ⌝ }
     ensures { λ r. ⌜ r ≡ clashAfter (before (now (log .entry)) at) (said (now (log .entry)) at) ⌝ }
 {
     if u == 0 {
@@ -37,7 +107,7 @@ fn clashes_with(log: &[u8], at: usize, t: u64, u: u64, hints: &[u32; 16384]) -> 
     if u == t {
         return false;
     }
-    state_at(log, at, hints, u) == 1
+    is_open(log, at, opens, u)
 }
 
 // The transaction of the change at the place that a cell holds; 0 for none.
@@ -84,13 +154,14 @@ fn touch(
     lo: usize,
     hi: usize,
     cells: &mut [u32],
-    hints: &[u32; 16384],
+    opens: &[u32; 65536],
 ) -> bool
     requires { ⌜ (kind ≡ said (now log) at .kind) × (isShaped (said (now log) at) ≡ true) × (lo ≤ hi) × (hi ≤ 4096) ⌝ }
     requires { ⌜ (t ≡ said (now log) at .txn) × (length (now log) ≤ 16777216) × (length (now cells) ≡ 131072) ⌝ }
+    requires { ⌜ Met (now log) at ⌝ }
     requires { ⌜ Stands (now log) at ⌝ }
     requires { ⌜ Known (now log) (now starts) (now cells) lo hi at ⌝ }
-    requires { ⌜ Hints (now log) at (now hints) ⌝ }
+    requires { ⌜ Opens (now log) at (now opens) ⌝ }
     ensures { λ r. ⌜ r ≡ clashIn lo hi (now (log .entry)) at ⌝ }
     ensures { λ r. ⌜ now (cells .exit) ≡ noted r (cellFor (now (starts .entry)) lo hi (said (now (log .entry)) at)) at (now (cells .entry)) ⌝ }
 {
@@ -99,7 +170,7 @@ fn touch(
         return false;
     }
     let u = txn_by(log, cells[c]);
-    if clashes_with(log, at, t, u, hints) {
+    if clashes_with(log, at, t, u, opens) {
         return true;
     }
     cells[c] = at as u32;
@@ -121,16 +192,15 @@ fn clash_in(
     requires { ⌜ Blank (now cells) ⌝ }
     ensures { λ r. ⌜ FirstIn lo hi (now (log .entry)) limit r ⌝ }
 {
-    let mut hints = [32u32; 16384];
+    let mut opens = [0u32; 65536];
     let mut at = FIRST;
     while at < limit {
         let v = standing(log, at);
-        if touch(log, at, v.kind, v.txn.0, starts, lo, hi, cells, &hints) {
+        if touch(log, at, v.kind, v.txn.0, starts, lo, hi, cells, &opens) {
             return at;
         }
-        let next = at + v.length;
-        mark(log, at, next, v.txn.0, &mut hints);
-        at = next;
+        enter(log, at, v.kind, v.txn.0, &mut opens);
+        at += v.length;
     }
     limit
 }
@@ -170,12 +240,12 @@ fn newest_back(log: &[u8], place: usize, page: u64, slot: u16) -> u64
 }
 
 // Whether the entry at `at` clashes on a page that is none of the first n.
-fn touch_beyond(log: &[u8], at: usize, kind: u8, t: u64, n: usize, hints: &[u32; 16384]) -> bool
+fn touch_beyond(log: &[u8], at: usize, kind: u8, t: u64, n: usize, opens: &[u32; 65536]) -> bool
     requires { ⌜ (kind ≡ said (now log) at .kind) × (t ≡ said (now log) at .txn) × (isShaped (said (now log) at) ≡ true) ⌝ }
     requires { ⌜ Met (now log) at ⌝ }
     requires { ⌜ Stands (now log) at ⌝ }
     requires { ⌜ Shaped (now log) at ⌝ }
-    requires { ⌜ Hints (now log) at (now hints) ⌝ }
+    requires { ⌜ Opens (now log) at (now opens) ⌝ }
     ensures { λ r. ⌜ r ≡ clashIn n (2 ^ 64) (now (log .entry)) at ⌝ }
 {
     if !is_change(kind) {
@@ -186,7 +256,7 @@ fn touch_beyond(log: &[u8], at: usize, kind: u8, t: u64, n: usize, hints: &[u32;
         return false;
     }
     let u = newest_back(log, at, page, u16_at(log, at + 35));
-    clashes_with(log, at, t, u, hints)
+    clashes_with(log, at, t, u, opens)
 }
 
 // The first clash before limit on a page that is none of the first n, or limit.
@@ -196,16 +266,15 @@ fn clash_beyond(log: &[u8], limit: usize, n: usize) -> usize
     requires { ⌜ Shaped (now log) limit ⌝ }
     ensures { λ r. ⌜ FirstIn n (2 ^ 64) (now (log .entry)) limit r ⌝ }
 {
-    let mut hints = [32u32; 16384];
+    let mut opens = [0u32; 65536];
     let mut at = FIRST;
     while at < limit {
         let v = standing(log, at);
-        if touch_beyond(log, at, v.kind, v.txn.0, n, &hints) {
+        if touch_beyond(log, at, v.kind, v.txn.0, n, &opens) {
             return at;
         }
-        let next = at + v.length;
-        mark(log, at, next, v.txn.0, &mut hints);
-        at = next;
+        enter(log, at, v.kind, v.txn.0, &mut opens);
+        at += v.length;
     }
     limit
 }

@@ -29,7 +29,7 @@ use Rattle.order.specs.Clash.{passed}
 use Rattle.order.specs.Hints.{Hints, Highs, raised}
 use Rattle.order.specs.First.{told, endNumber, FirstWalk}
 use Rattle.order.specs.Walking.{Walking}
-use Rattle.order.proofs.HintLaws.{hints-first, highs-first, highs-next}
+use Rattle.order.proofs.HintLaws.{highs-first, highs-next}
 
 -- what stands in the walk's answer
 told-more : (n at : ℕ) → told (suc n) at ≡ verdict (suc n) at
@@ -42,11 +42,11 @@ told-end Torn at = refl
 told-end Damage at = refl
 
 module _ (full : ℕ → Bool) (s : List ℕ) where
-  pub walking-first : Walking full s (replicate 16384 32) (replicate 16384 0) 32 0 0
-  walking-first =
+  pub walking-first : {hints : List ℕ} → Hints s 32 hints → Walking full s hints (replicate 16384 0) 32 0 0
+  walking-first k =
       record {
         met = met-first s;
-        hinted = hints-first s;
+        hinted = k;
         highest = highs-first s;
         lastIs = sym (ap lastLsn (before-first s));
         begun = sym (ap (count isBegin) (before-first s));

@@ -6,11 +6,11 @@ use native.Mathlib.Omega.{arith}
 use native.Mathlib.Decide.{ℕ-discrete}
 use lib.ListN.{getD, set, replicate, getD-replicate, length-replicate, length-set}
 use lib.Seq.{getD-set-same, getD-set-other, set-getD}
-use borrow.Author.Tests.{ne-eqb}
+use borrow.Author.Tests.{eq-eqb, ne-eqb}
 use Rattle.wal.specs.Read.{lengthAt}
 use Rattle.wal.specs.Prefix.{Met, Stands, said, before}
 use Rattle.wal.proofs.Prefix.{met-first, met-next, before-first, before-next}
-use Rattle.order.specs.State.{stateFrom, stateOf}
+use Rattle.order.specs.State.{stateAfter, stateFrom, stateOf}
 use Rattle.order.specs.Hints.{Hint, Hints, Highs, raised}
 use Rattle.order.proofs.States.{state-snoc}
 
@@ -32,8 +32,11 @@ module _ (t : ℕ) (highs : List ℕ) where
   raised-high h = sym (ap (set highs (t % 16384)) (omega arith) ∙ set-getD highs (t % 16384) 0)
 
 module _ (s : List ℕ) (at : ℕ) (m : Met s at) (h : Stands s at) where
-  -- an entry of another transaction does not alter a state
-  state-keeps : (t : ℕ) → (said s at .txn ≡ t → ⊥) → stateOf t (before s (at + lengthAt s at)) ≡ stateOf t (before s at)
+  -- an entry tells the state of its transaction, and alters no other
+  pub state-own : (t : ℕ) → said s at .txn ≡ t → stateOf t (before s (at + lengthAt s at)) ≡ stateAfter (said s at .kind)
+  state-own t e = ap (stateOf t) (before-next s m h) ∙ state-snoc t (before s at) (said s at) ∙ rw (eq-eqb (said s at .txn) t e)
+
+  pub state-keeps : (t : ℕ) → (said s at .txn ≡ t → ⊥) → stateOf t (before s (at + lengthAt s at)) ≡ stateOf t (before s at)
   state-keeps t n = ap (stateOf t) (before-next s m h) ∙ state-snoc t (before s at) (said s at) ∙ rw (ne-eqb (said s at .txn) t n)
 
   hint-other : (r p : ℕ) → (said s at .txn % 16384 ≡ r → ⊥) → Hint s at r p → Hint s (at + lengthAt s at) r p

@@ -5,7 +5,7 @@ ghost use lib.ListN.{length};
 ghost use lib.Dec.{eqb};
 ghost use Rattle.endian.specs.Numbers.{part};
 ghost use Rattle.wal.specs.Entry.{entryOf};
-ghost use Rattle.wal.specs.Read.{lengthAt};
+ghost use Rattle.wal.specs.Read.{first, lengthAt};
 ghost use Rattle.wal.specs.Prefix.{Met, Stands, said, before};
 ghost use Rattle.wal.proofs.WalkLaws.{EntryAt};
 ghost use Rattle.crc32c.specs.Tables.{Tables};
@@ -31,7 +31,7 @@ use wal::inner::entry_at;
 use wal::inner::place_before;
 
 // The state of a transaction whose newest entry has this type.
-fn state_after(kind: u8) -> u64
+pub fn state_after(kind: u8) -> u64
     ensures { λ r. ⌜ r ≡ stateAfter kind ⌝ }
 {
     if kind == 2 {
@@ -62,7 +62,7 @@ pub fn look_back(log: &[u8], place: usize, t: u64) -> u64
 }
 
 // The state of transaction t before `at`.
-pub fn state_at(log: &[u8], at: usize, hints: &[u32; 16384], t: u64) -> u64
+fn state_at(log: &[u8], at: usize, hints: &[u32; 16384], t: u64) -> u64
     requires { ⌜ Hints (now log) at (now hints) ⌝ }
     ensures { λ r. ⌜ r ≡ stateOf t (before (now (log .entry)) at) ⌝ }
 {
@@ -85,7 +85,7 @@ fn state_before(log: &[u8], at: usize, hints: &[u32; 16384], highs: &[u64; 16384
 }
 
 // Notes that an entry of transaction t, which stands at `at`, ends at next.
-pub fn mark(log: &[u8], at: usize, next: usize, t: u64, hints: &mut [u32; 16384])
+fn mark(log: &[u8], at: usize, next: usize, t: u64, hints: &mut [u32; 16384])
     requires { ⌜ (length (now log) ≤ 16777216) × (next ≡ at + lengthAt (now log) at) × (t ≡ said (now log) at .txn) ⌝ }
     requires { ⌜ Met (now log) at ⌝ }
     requires { ⌜ Stands (now log) at ⌝ }
@@ -342,12 +342,18 @@ fn counted(begins: u64, kind: u8) -> u64
 }
 
 // The first walk: checksums, and all rules but that on clashes.
-pub fn walk(t: &[u32; 2048], log: &[u8], bounded: bool, records: u64) -> Walked
+pub fn walk(
+    t: &[u32; 2048],
+    log: &[u8],
+    bounded: bool,
+    records: u64,
+    hints: &mut [u32; 16384],
+) -> Walked
     requires { ⌜ Tables (now t) ⌝ }
     requires { ⌜ length (now log) ≤ 16777216 ⌝ }
+    requires { ⌜ Hints (now log) first (now hints) ⌝ }
     ensures { λ r. ⌜ FirstWalk (fullOf bounded records) (now (log .entry)) r ⌝ }
 {
-    let mut hints = [32u32; 16384];
     let mut highs = [0u64; 16384];
     let mut at = FIRST;
     let mut last: u64 = 0;
@@ -363,7 +369,7 @@ pub fn walk(t: &[u32; 2048], log: &[u8], bounded: bool, records: u64) -> Walked
             };
         };
         let full = is_full(bounded, records, begins);
-        let number = fault_at(log, v, &hints, &highs, last, full);
+        let number = fault_at(log, v, hints, &highs, last, full);
         if number != 0 {
             return Walked {
                 number: number,
@@ -372,7 +378,7 @@ pub fn walk(t: &[u32; 2048], log: &[u8], bounded: bool, records: u64) -> Walked
             };
         }
         let next = at + v.length;
-        mark(log, at, next, v.txn.0, &mut hints);
+        mark(log, at, next, v.txn.0, hints);
         raise(&mut highs, v.txn.0);
         begins = counted(begins, v.kind);
         last = v.lsn.0;

@@ -45,11 +45,23 @@ pub fn judge(
     ensures { λ r. ⌜ Judgement (fullOf bounded records) magic (floor .0) (now (pages .entry)) (now (log .entry)) (now (starts .exit)) (now (lasts .exit)) r ⌝ }
     ensures { λ _. ⌜ Memo (now (log .entry)) (now (memo .exit)) ⌝ }
 {
+    // made before any test: docs/DECISIONS.md says why
+    let mut hints = [32u32; 16384];
     if size_wrong(pages) {
         return refusal(PAGE_AREA, 0);
     }
     let n = pages.len() / PAGE_BYTES;
-    let w = judge_log(t, log, n, bounded, records, starts, lasts, cells);
+    let w = judge_log(
+        t,
+        log,
+        n,
+        bounded,
+        records,
+        starts,
+        lasts,
+        cells,
+        &mut hints,
+    );
     if w.number != 0 {
         return w;
     }

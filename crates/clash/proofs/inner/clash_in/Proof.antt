@@ -11,10 +11,10 @@ use Rattle.clash.proofs.inner.clash_in.Statement.{statement}
 use Rattle.clash.proofs.inner.clash_in.Tie as tie
 
 abbrev Inv-loop : tie.InvT-loop
-Inv-loop log limit starts lo hi cells₀ hints₀ at₀ cells hints at = Sweeping log hints limit lo hi at × Group log starts cells limit lo hi at
+Inv-loop log limit starts lo hi cells₀ opens₀ at₀ cells opens at = Sweeping log opens limit lo hi at × Group log starts cells limit lo hi at
 
 abbrev μ-loop : tie.MeasureT-loop
-μ-loop log limit starts lo hi cells₀ hints₀ at₀ cells hints at = limit - at
+μ-loop log limit starts lo hi cells₀ opens₀ at₀ cells opens at = limit - at
 
 -- the entry that was read
 stands : (f : tie.After-standing Inv-loop μ-loop) → Stands (f .before .before .before .before .before .args .log .now) (f .before .before .loop .at)
@@ -36,7 +36,7 @@ touch-requires c κs =
       (view-kind _ _ e, g .shaped _ (k .0 .met) (f .before .loop-test .taken), omega (arith, g .order), omega (arith, g .within, g .most)),
       (
         (view-txn _ _ e, p .0 .0, k .1 .long),
-        (stands f, (known (k .1) (k .0 .met) (stands f) (f .before .loop-test .taken), k .0 .hinted)),
+        (k .0 .met, (stands f, (known (k .1) (k .0 .met) (stands f) (f .before .loop-test .taken), k .0 .told))),
       ),
     )
 
@@ -45,20 +45,18 @@ returns c =
     let f = c .before .before .before .before .before .before in
     one-found (f .before .before .loop .inv .0) (f .before .before .before .before .before .pre .1 .0) (f .before .loop-test .taken) (sym (c .before .before .before .touch .ensures .0) ∙ c .if1 .taken)
 
-add-next : tie.Need-add-next Inv-loop μ-loop
-add-next c =
+enter-requires : tie.Need-enter-requires Inv-loop μ-loop
+enter-requires c κs =
     let f = c .before .before .before .before .before .before .before in
+    let k = f .before .before .loop .inv in
+    let e = f .standing .ensures in
+    ((f .before .before .before .before .before .pre .0 .0, view-kind _ _ e, view-txn _ _ e), (k .0 .met, (stands f, k .0 .told)))
+
+add-at : tie.Need-add-at Inv-loop μ-loop
+add-at c =
+    let f = c .before .before .before .before .before .before .before .before .before in
     let k = stands-at (stands f) in
     omega (arith, k .room, view-length _ _ (f .standing .ensures), f .before .before .before .before .before .pre .0 .0)
-
-mark-requires : tie.Need-mark-requires Inv-loop μ-loop
-mark-requires c κs =
-    let f = c .before .before .before .before .before .before .before .before in
-    let k = f .before .before .loop .inv in
-    let e = f .standing .ensures in (
-      (f .before .before .before .before .before .pre .0 .0, ap (λ (x : ℕ). f .before .before .loop .at + x) (view-length _ _ e), view-txn _ _ e),
-      (k .0 .met, (stands f, k .0 .hinted)),
-    )
 
 loop-less : tie.Need-loop-less Inv-loop μ-loop
 loop-less c =
@@ -74,7 +72,7 @@ loop-again c =
     let b = c .before .before .before in
     let u = b .before .before .before .touch .ensures in
     let next = ap (λ (x : ℕ). f .before .before .loop .at + x) (view-length _ _ e) in (
-      sweeping-next (k .0) (f .before .before .before .before .before .pre .1 .0) (f .before .loop-test .taken) _ _ (sym (u .0) ∙ b .if1 .left) next (c .mark .ensures),
+      sweeping-next (k .0) (f .before .before .before .before .before .pre .1 .0) (f .before .loop-test .taken) _ _ (sym (u .0) ∙ b .if1 .left) next (c .before .enter .ensures),
       group-next (k .1) (k .0 .met) (stands f) (f .before .loop-test .taken) _ _ _ (u .0) (b .if1 .left) (u .1) next,
     )
 
@@ -87,4 +85,4 @@ returns-2 c = none-found (c .before .loop .inv .0) (c .before .before .before .b
 pub clash-in-spec : {M : Type 1} → statement M
 clash-in-spec =
     tie.close
-    (tie.spec Inv-loop μ-loop loop-holds standing-requires touch-requires (λ c. search needs) returns add-next mark-requires loop-less loop-again same-length-2 returns-2)
+    (tie.spec Inv-loop μ-loop loop-holds standing-requires touch-requires (λ c. search needs) returns enter-requires add-at loop-less loop-again same-length-2 returns-2)

@@ -1,6 +1,4 @@
-use mathlib.Core.Path.{sym, ap, _∙_}
-use Prim.Native.Nat.{ℕ}
-use lib.Dec.{eqb}
+use mathlib.Core.Path.{sym, _∙_}
 use borrow.Author.Needs.{needs}
 use Rattle.clash.proofs.NewestLaws.{clash-none, clash-own, clash-state}
 use Rattle.clash.proofs.inner.clashes_with.Statement.{statement}
@@ -17,7 +15,7 @@ returns-2 c =
 returns-3 : tie.Need-returns-3
 returns-3 c =
     let p = c .before .before .before .before .pre .0 in
-    ap (λ (x : ℕ). eqb x 1) (c .state-at .ensures) ∙ sym (clash-state _ _ (p .1) _ (p .2) (c .before .before .if1 .left) (λ e. c .before .if2 .left (e ∙ sym (p .0))))
+    c .is-open .ensures ∙ sym (clash-state _ _ (p .1) _ (p .2) (c .before .before .if1 .left) (λ e. c .before .if2 .left (e ∙ sym (p .0))))
 
 pub clashes-with-spec : {M : Type 1} → statement M
 clashes-with-spec = tie.close (tie.spec returns returns-2 (λ c κs. search needs) returns-3)

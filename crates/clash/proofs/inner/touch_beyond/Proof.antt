@@ -55,7 +55,7 @@ clashes-with-requires c κs =
     let p = f .before .before .before .pre in
     let a = f .before .before .before .args in (
       (p .0 .1, change f, c .newest-back .ensures ∙ ap₂ (λ (x y : ℕ). newestOn x y 0 (before (a .log .now) (a .at))) (c .before .before .before .u64-at .ensures ∙ sym (key f .page)) (c .before .u16-at .ensures ∙ sym (key f .slot))),
-      p .1 .1 .1 .1,
+      (p .1 .0, p .1 .1 .1 .1),
     )
 
 returns-3 : tie.Need-returns-3

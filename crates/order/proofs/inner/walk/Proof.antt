@@ -35,7 +35,7 @@ fault : (c : tie.After-found Inv-loop μ-loop) {x : Bool} {n : ℕ} → x ≡ fu
 fault c e h = rw (← e) h
 
 loop-holds : tie.Need-loop-holds Inv-loop μ-loop
-loop-holds c = walking-first _ _
+loop-holds c = walking-first _ _ (c .before .pre .1 .1)
 
 returns : tie.Need-returns Inv-loop μ-loop
 returns c = walked-end _ _ (c .before .before .before .loop .inv) _ (c .before .before .entry-at .ensures) (c .before .match .keys2) _ (c .end-number .ensures)
@@ -53,13 +53,13 @@ add-next : tie.Need-add-next Inv-loop μ-loop
 add-next c =
     let f = c .before .before .before .before .before .before .before in
     let k = entry-at _ _ (whole f) in
-    omega (arith, k .room, k .from, f .before .before .before .before .before .pre .1)
+    omega (arith, k .room, k .from, f .before .before .before .before .before .pre .1 .0)
 
 mark-requires : tie.Need-mark-requires Inv-loop μ-loop
 mark-requires c κs =
     let f = c .before .before .before .before .before .before .before .before in
     let w = f .before .before .before .loop .inv in (
-      (f .before .before .before .before .before .pre .1, ap (λ (x : ℕ). f .before .before .before .loop .at + x) (read-length _ _ w _ (whole f)), read-txn _ _ w _ (whole f)),
+      (f .before .before .before .before .before .pre .1 .0, ap (λ (x : ℕ). f .before .before .before .loop .at + x) (read-length _ _ w _ (whole f)), read-txn _ _ w _ (whole f)),
       (w .met, (read-stands _ _ w _ (whole f), w .hinted)),
     )
 
@@ -67,7 +67,7 @@ counted-requires : tie.Need-counted-requires Inv-loop μ-loop
 counted-requires c κs =
     let f = c .before .before .before .before .before .before .before .before .before .before .before in
     let w = f .before .before .before .loop .inv in
-    omega (arith, w .few, met-small _ (w .met), f .before .before .before .before .before .pre .1)
+    omega (arith, w .few, met-small _ (w .met), f .before .before .before .before .before .pre .1 .0)
 
 loop-less : tie.Need-loop-less Inv-loop μ-loop
 loop-less c =

@@ -12,6 +12,7 @@ use Rattle.page.specs.declared.Verdict.{Verdict}
 use Rattle.rules.specs.Order.{logVerdict, lastLsn}
 use Rattle.rules.specs.Recover.{pagesFrom, strayFrom}
 use Rattle.order.specs.First.{fullOf}
+use Rattle.order.proofs.HintLaws.{hints-first}
 use Rattle.fates.specs.Fate.{Ordered}
 use Rattle.checks.proofs.LogLaws.{header-fits}
 use Rattle.recovery.proofs.JudgeLaws.{header-ok, ordered-ok, judge-size, judge-pages, judge-stray, judge-tight, judge-done, stray-ok}
@@ -23,17 +24,17 @@ use Rattle.recovery.proofs.judge.judge.Tie as tie
 size-fine : (c : tie.Else1) → sizeWrong (c .before .before .before .before .args .pages .now) ≡ false
 size-fine c = sym (c .before .size-wrong .ensures) ∙ c .if1 .left
 
-log-fine : (c : tie.Else2) → let a = c .before .before .before .before .before .before .before .before .before .before .args in logVerdict (fullOf (a .bounded) (a .records)) (a .log .now) .number ≡ 0
+log-fine : (c : tie.Else2) → let a = c .before .before .before .before .before .before .before .before .before .before .before .args in logVerdict (fullOf (a .bounded) (a .records)) (a .log .now) .number ≡ 0
 log-fine c = log-ok (c .before .before .judge-log .ensures) (c .if2 .left)
 
-pages-fine : (c : tie.Else3) → let a = c .before .before .before .before .before .before .before .before .before .before .before .before .before .args in
+pages-fine : (c : tie.Else3) → let a = c .before .before .before .before .before .before .before .before .before .before .before .before .before .before .args in
     pagesFrom (a .magic) (a .floor .0) (lastLsn (entries (a .log .now))) (a .pages .now) (pagesIn (a .pages .now)) 0 .number ≡ 0
 pages-fine c =
     let j = c .before .before .before .before .before in
-    let a = j .before .before .before .before .before .before .before .before .args in
+    let a = j .before .before .before .before .before .before .before .before .before .args in
     rw (← j .judge-log .ensures .last (c .before .before .before .if2 .left)) (sym (ap (λ (v : Verdict). v .number) (c .before .before .judge-pages .ensures)) ∙ c .if3 .left)
 
-stray-fine : (c : tie.Else4) → let a = c .before .before .before .before .before .before .before .before .before .before .before .before .before .before .before .before .args in
+stray-fine : (c : tie.Else4) → let a = c .before .before .before .before .before .before .before .before .before .before .before .before .before .before .before .before .before .args in
     strayFrom (a .pages .now) (entries (a .log .now)) first .number ≡ 0
 stray-fine c =
     stray-ok _ _ (c .before .before .stray .result) (c .before .before .before .before .before .before .before .before .judge-log .result .place) (omega (arith, c .if4 .left)) (c .before .before .stray .ensures)
@@ -43,13 +44,13 @@ returns c = (rw (c .refusal .ensures) (judged-refused _ _ _ _ _ _ _ 1 0 (λ z. a
 
 judge-log-requires : tie.Need-judge-log-requires
 judge-log-requires c κs =
-    let e = c .before .before .before in
-    (e .before .before .before .before .pre .0, size-is _ (size-fine e) .1)
+    let e = c .before .before .before .before in
+    (e .before .before .before .before .pre .0, (size-is _ (size-fine e) .1, hints-first _))
 
 returns-2 : tie.Need-returns-2
 returns-2 c =
     let j = c .before .before in
-    (judged-log _ _ _ _ _ _ _ _ _ (j .judge-log .ensures) (size-fine (j .before .before .before .before)) (c .if2 .taken), j .before .before .before .before .before .before .before .before .pre .1)
+    (judged-log _ _ _ _ _ _ _ _ _ (j .judge-log .ensures) (size-fine (j .before .before .before .before .before)) (c .if2 .taken), j .before .before .before .before .before .before .before .before .before .pre .1)
 
 returns-3 : tie.Need-returns-3
 returns-3 c =
@@ -58,8 +59,8 @@ returns-3 c =
     let j = l .before .before in
     let k = j .judge-log .ensures .last (l .if2 .left) in (
       rw (c .refusal2 .ensures) (judged-refused _ _ _ _ _ _ _ _ _ (c .before .if3 .taken)
-          (judge-pages _ _ _ _ _ (size-fine (j .before .before .before .before)) (log-fine l) _ (rw (← k) (p .judge-pages .ensures)) (c .before .if3 .taken))),
-      j .before .before .before .before .before .before .before .before .pre .1,
+          (judge-pages _ _ _ _ _ (size-fine (j .before .before .before .before .before)) (log-fine l) _ (rw (← k) (p .judge-pages .ensures)) (c .before .if3 .taken))),
+      j .before .before .before .before .before .before .before .before .before .pre .1,
     )
 
 stray-requires : tie.Need-stray-requires
@@ -76,8 +77,8 @@ returns-4 c =
     let l = p .before .before .before in
     let j = l .before .before in (
       rw (c .refusal3 .ensures) (judged-refused _ _ _ _ _ _ _ 13 _ (λ z. absurd (omega arith))
-          (judge-stray _ _ _ _ _ (size-fine (j .before .before .before .before)) (log-fine l) (pages-fine p) _ _ (t .if4 .taken) (t .before .before .stray .ensures))),
-      j .before .before .before .before .before .before .before .before .pre .1,
+          (judge-stray _ _ _ _ _ (size-fine (j .before .before .before .before .before)) (log-fine l) (pages-fine p) _ _ (t .if4 .taken) (t .before .before .stray .ensures))),
+      j .before .before .before .before .before .before .before .before .before .pre .1,
     )
 
 tight-requires : tie.Need-tight-requires
@@ -89,8 +90,8 @@ tight-requires c κs =
     let z = l .if2 .left in
     let v = log-fine l in
     let e = j .judge-log .ensures .end z in
-    let y = size-is _ (size-fine (j .before .before .before .before)) in
-    (ordered-ok _ _ v, (j .before .before .before .before .before .before .before .before .pre .1, (j .judge-log .ensures .begin z, (touched-ok _ _ _ _ _ _ refl (pages-fine p) (stray-fine q), (sym e, header-fits _ (header-ok _ _ v), refl, y .1)))))
+    let y = size-is _ (size-fine (j .before .before .before .before .before)) in
+    (ordered-ok _ _ v, (j .before .before .before .before .before .before .before .before .before .pre .1, (j .judge-log .ensures .begin z, (touched-ok _ _ _ _ _ _ refl (pages-fine p) (stray-fine q), (sym e, header-fits _ (header-ok _ _ v), refl, y .1)))))
 
 returns-5 : tie.Need-returns-5
 returns-5 c =
@@ -100,7 +101,7 @@ returns-5 c =
     let l = p .before .before .before in
     let j = l .before .before in (
       rw (c .refusal4 .ensures) (judged-refused _ _ _ _ _ _ _ 14 _ (λ z. absurd (omega arith))
-          (judge-tight _ _ _ _ _ (size-fine (j .before .before .before .before)) (log-fine l) (pages-fine p) (stray-fine q) _ (t .if5 .taken) (t .before .tight .ensures .0 .1))),
+          (judge-tight _ _ _ _ _ (size-fine (j .before .before .before .before .before)) (log-fine l) (pages-fine p) (stray-fine q) _ (t .if5 .taken) (t .before .tight .ensures .0 .1))),
       t .before .tight .ensures .1,
     )
 
@@ -111,7 +112,7 @@ returns-6 c =
     let l = p .before .before .before in
     let j = l .before .before in (
       judged-all _ _ _ _ _ _ _ _ _ (j .judge-log .ensures) (l .if2 .left) refl
-          (judge-done _ _ _ _ _ (size-fine (j .before .before .before .before)) (log-fine l) (pages-fine p) (stray-fine q) _ (omega (arith, c .if5 .left)) (c .before .tight .ensures .0 .1)),
+          (judge-done _ _ _ _ _ (size-fine (j .before .before .before .before .before)) (log-fine l) (pages-fine p) (stray-fine q) _ (omega (arith, c .if5 .left)) (c .before .tight .ensures .0 .1)),
       c .before .tight .ensures .1,
     )
 
