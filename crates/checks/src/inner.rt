@@ -48,7 +48,7 @@ pub fn judge_log(
     records: u64,
     starts: &mut [u32; 4097],
     lasts: &mut [u32; 4096],
-    cells: &mut [u32; 131072],
+    cells: &mut [u32; 163840],
     hints: &mut [u32; 16384],
 ) -> Walked
     requires { ⌜ Tables (now t) ⌝ }

@@ -29,15 +29,15 @@ unfolding isIn
 in-true lo hi e h = let a = both-true (leb lo (pageOf e)) _ h in (leb-true _ _ (a .0), ltb-true _ _ (a .1))
 
 module _ (starts : List ℕ) (lo hi : ℕ) (e : Entry) where
-  pub no-change-cell : isChange e ≡ false → cellFor starts lo hi e ≡ 131072
+  pub no-change-cell : isChange e ≡ false → cellFor starts lo hi e ≡ 163840
   unfolding cellFor
   no-change-cell h = rw h
 
-  low-cell : isChange e ≡ true → pageOf e < lo → cellFor starts lo hi e ≡ 131072
+  low-cell : isChange e ≡ true → pageOf e < lo → cellFor starts lo hi e ≡ 163840
   unfolding cellFor isIn
   low-cell h l = rw (h, lt-leb lo (pageOf e) l)
 
-  high-cell : isChange e ≡ true → lo ≤ pageOf e → hi ≤ pageOf e → cellFor starts lo hi e ≡ 131072
+  high-cell : isChange e ≡ true → lo ≤ pageOf e → hi ≤ pageOf e → cellFor starts lo hi e ≡ 163840
   unfolding cellFor isIn
   high-cell h l k = rw (h, le-leb lo (pageOf e) l, le-ltb (pageOf e) hi k)
 
@@ -47,10 +47,10 @@ module _ (starts : List ℕ) (lo hi : ℕ) (e : Entry) where
 
 -- by the page that was read, or the group's end
 module _ (starts : List ℕ) (lo hi : ℕ) (e : Entry) (change : isChange e ≡ true) (i : ℕ) (is : i ≡ min (pageOf e) hi) where
-  pub read-low : lo ≤ hi → i < lo → cellFor starts lo hi e ≡ 131072
+  pub read-low : lo ≤ hi → i < lo → cellFor starts lo hi e ≡ 163840
   read-low o h = low-cell starts lo hi e change (omega arith)
 
-  pub read-high : lo ≤ i → hi ≤ i → cellFor starts lo hi e ≡ 131072
+  pub read-high : lo ≤ i → hi ≤ i → cellFor starts lo hi e ≡ 163840
   read-high l h = high-cell starts lo hi e change (omega arith) (omega arith)
 
   module _ (l : lo ≤ i) (h : i < hi) where
@@ -70,12 +70,12 @@ clash-out lo hi s at b = go (isChange (said s at)) refl (isIn lo hi (said s at))
     go false q true b = no-clash (before s at) (said s at) q
 
 -- by the number of its cell
-cell-none : (starts : List ℕ) (lo hi : ℕ) (s : List ℕ) (at : ℕ) → ((isChange (said s at) ≡ true) → (lo ≤ pageOf (said s at)) → (pageOf (said s at) < hi) → getD starts (pageOf (said s at)) 0 - getD starts lo 0 + slotOf (said s at) < 131072)
-    → cellFor starts lo hi (said s at) ≡ 131072 → clashIn lo hi s at ≡ false
+cell-none : (starts : List ℕ) (lo hi : ℕ) (s : List ℕ) (at : ℕ) → ((isChange (said s at) ≡ true) → (lo ≤ pageOf (said s at)) → (pageOf (said s at) < hi) → getD starts (pageOf (said s at)) 0 - getD starts lo 0 + slotOf (said s at) < 163840)
+    → cellFor starts lo hi (said s at) ≡ 163840 → clashIn lo hi s at ≡ false
 unfolding cellFor
 cell-none starts lo hi s at fits e = go (both (isChange (said s at)) (isIn lo hi (said s at))) refl e
   where
-    go : (b : Bool) → both (isChange (said s at)) (isIn lo hi (said s at)) ≡ b → pick b (getD starts (pageOf (said s at)) 0 - getD starts lo 0 + slotOf (said s at)) 131072 ≡ 131072 → clashIn lo hi s at ≡ false
+    go : (b : Bool) → both (isChange (said s at)) (isIn lo hi (said s at)) ≡ b → pick b (getD starts (pageOf (said s at)) 0 - getD starts lo 0 + slotOf (said s at)) 163840 ≡ 163840 → clashIn lo hi s at ≡ false
     go true q z =
         let a = both-true (isChange (said s at)) _ q in
         let b = in-true lo hi (said s at) (a .1) in
@@ -90,11 +90,11 @@ record Own (starts : List ℕ) (lo hi : ℕ) (e : Entry) : Type 0 where
   pub cell : cellFor starts lo hi e ≡ getD starts (pageOf e) 0 - getD starts lo 0 + slotOf e
   pub inside : isIn lo hi e ≡ true
 
-own : (starts : List ℕ) (lo hi : ℕ) (e : Entry) → (cellFor starts lo hi e ≡ 131072 → ⊥) → Own starts lo hi e
+own : (starts : List ℕ) (lo hi : ℕ) (e : Entry) → (cellFor starts lo hi e ≡ 163840 → ⊥) → Own starts lo hi e
 unfolding cellFor
 own starts lo hi e n = go (both (isChange e) (isIn lo hi e)) refl n
   where
-    go : (b : Bool) → both (isChange e) (isIn lo hi e) ≡ b → (pick b (getD starts (pageOf e) 0 - getD starts lo 0 + slotOf e) 131072 ≡ 131072 → ⊥) → Own starts lo hi e
+    go : (b : Bool) → both (isChange e) (isIn lo hi e) ≡ b → (pick b (getD starts (pageOf e) 0 - getD starts lo 0 + slotOf e) 163840 ≡ 163840 → ⊥) → Own starts lo hi e
     go true q n =
         let a = both-true (isChange e) _ q in
         let b = in-true lo hi e (a .1) in
@@ -103,17 +103,17 @@ own starts lo hi e n = go (both (isChange e) (isIn lo hi e)) refl n
 
 -- what is known of its cell
 module _ {s starts cells : List ℕ} {lo hi at : ℕ} (k : Known s starts cells lo hi at) (c : ℕ) (is : c ≡ cellFor starts lo hi (said s at)) where
-  pub no-cell : c ≡ 131072 → clashIn lo hi s at ≡ false
+  pub no-cell : c ≡ 163840 → clashIn lo hi s at ≡ false
   no-cell e = cell-none starts lo hi s at (k .fits) (sym is ∙ e)
 
-  module _ (n : c ≡ 131072 → ⊥) where
+  module _ (n : c ≡ 163840 → ⊥) where
     at-own : Own starts lo hi (said s at)
     at-own = own starts lo hi (said s at) (λ e. n (is ∙ e))
 
     pub own-change : isChange (said s at) ≡ true
     own-change = at-own .change
 
-    pub own-fits : c < 131072
+    pub own-fits : c < 163840
     own-fits = let o = at-own in omega (arith, o .cell, k .fits (o .change) (o .low) (o .high))
 
     pub own-tells : Newest s at (pageOf (said s at)) (slotOf (said s at)) (getD cells c 0)
@@ -123,17 +123,17 @@ module _ {s starts cells : List ℕ} {lo hi at : ℕ} (k : Known s starts cells 
     own-clash e = e ∙ sym (rw (at-own .inside))
 
 module _ (at : ℕ) (cells : List ℕ) where
-  pub noted-none : (c : ℕ) → c ≡ 131072 → cells ≡ noted false c at cells
+  pub noted-none : (c : ℕ) → c ≡ 163840 → cells ≡ noted false c at cells
   unfolding noted
-  noted-none c e = rw (eq-eqb c 131072 e)
+  noted-none c e = rw (eq-eqb c 163840 e)
 
   pub noted-clash : (c : ℕ) → cells ≡ noted true c at cells
   unfolding noted
   noted-clash c = refl
 
-  pub noted-new : (c : ℕ) → (c ≡ 131072 → ⊥) → set cells c at ≡ noted false c at cells
+  pub noted-new : (c : ℕ) → (c ≡ 163840 → ⊥) → set cells c at ≡ noted false c at cells
   unfolding noted
-  noted-new c n = rw (ne-eqb c 131072 n)
+  noted-new c n = rw (ne-eqb c 163840 n)
 
 -- ---- the cell of the entry at `at`
 module _ {s starts cells : List ℕ} {limit lo hi at : ℕ} (g : Group s starts cells limit lo hi at) (m : Met s at) (h : Stands s at) (before-limit : at < limit) where
@@ -153,7 +153,7 @@ module _ {s starts cells : List ℕ} {limit lo hi at : ℕ} (g : Group s starts 
         let y : getD starts lo 0 ≡ startOf (g .ground .es) lo = b .at lo (omega (arith, f .within)) in
         rw (x, y)
 
-    cell-fits : cellOf (g .ground .es) lo (pageOf (said s at)) (slotOf (said s at)) < 131072
+    cell-fits : cellOf (g .ground .es) lo (pageOf (said s at)) (slotOf (said s at)) < 163840
     cell-fits =
         let f = g .ground in
         let b = g .ground .begin in
@@ -214,14 +214,14 @@ module _ {s starts cells : List ℕ} {limit lo hi at : ℕ} (g : Group s starts 
       cell = getD starts (pageOf (said s at)) 0 - getD starts lo 0 + slotOf (said s at)
 
       go : (b : Bool) → both (isChange (said s at)) (isIn lo hi (said s at)) ≡ b
-          → Group s starts (pick (eqb (pick b cell 131072) 131072) cells (set cells (pick b cell 131072) at)) limit lo hi (at + lengthAt s at)
+          → Group s starts (pick (eqb (pick b cell 163840) 163840) cells (set cells (pick b cell 163840) at)) limit lo hi (at + lengthAt s at)
       go true q =
           let a = both-true (isChange (said s at)) _ q in
           let b = in-true lo hi (said s at) (a .1) in
-          let f : eqb cell 131072 ≡ false = ne-eqb cell 131072 (λ e. omega (arith, cell-fits (a .0) (b .0) (b .1), cell-is (a .0) (b .0) (b .1))) in
+          let f : eqb cell 163840 ≡ false = ne-eqb cell 163840 (λ e. omega (arith, cell-fits (a .0) (b .0) (b .1), cell-is (a .0) (b .0) (b .1))) in
           rw f (stored (a .0) (b .0) (b .1) cell refl)
       go false q = skipped q
 
 -- a group at the first place
-pub group-first : {s starts cells : List ℕ} {limit lo hi : ℕ} → Ground s starts limit lo hi → length cells ≡ 131072 → Blank cells → Group s starts cells limit lo hi 32
+pub group-first : {s starts cells : List ℕ} {limit lo hi : ℕ} → Ground s starts limit lo hi → length cells ≡ 163840 → Blank cells → Group s starts cells limit lo hi 32
 group-first {s} {starts} {cells} {limit} {lo} {hi} g l b = record { ground = g; long = l; tell = cells-blank (g .es) lo hi (Newest s 32) cells (newest-first s) b }

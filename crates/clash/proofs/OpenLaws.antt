@@ -20,12 +20,12 @@ use Rattle.order.proofs.Back.{said-txn}
 use Rattle.order.proofs.HintLaws.{state-own, state-keeps}
 use Rattle.clash.specs.Open.{isOf, Open, Opens}
 
-pub opens-first : (s : List ℕ) → Opens s 32 (replicate 65536 0)
+pub opens-first : (s : List ℕ) → Opens s 32 (replicate 32768 0)
 unfolding stateFrom isOf
 opens-first s =
     record {
-      long = length-replicate {0} {A = ℕ} 65536 0;
-      tell = λ r h. subst (Open s 32 r) (sym (getD-replicate 65536 r 0 0 h))
+      long = length-replicate {0} {A = ℕ} 32768 0;
+      tell = λ r h. subst (Open s 32 r) (sym (getD-replicate 32768 r 0 0 h))
           (record { within = λ l. absurd (omega arith); tells = λ n t p q. ap (λ (es : List Entry). eqb (stateOf t es) 1) (before-first s) });
     }
 
@@ -56,7 +56,7 @@ module _ {s : List ℕ} {at : ℕ} (m : Met s at) (h : Stands s at) where
   of-own = of-place s (said s at .txn) at (omega (arith, stands-at h .from)) ∙ eq-eqb _ _ (sym (said-txn s at))
 
   -- what is kept of transactions other than the entry's stays
-  open-other : {r v : ℕ} → ((t : ℕ) → 0 < t → t % 65536 ≡ r → said s at .txn ≡ t → ⊥) → Open s at r v → Open s (at + lengthAt s at) r v
+  open-other : {r v : ℕ} → ((t : ℕ) → 0 < t → t % 32768 ≡ r → said s at .txn ≡ t → ⊥) → Open s at r v → Open s (at + lengthAt s at) r v
   open-other n k = record { within = k .within; tells = λ o t p q. ap (λ (x : ℕ). eqb x 1) (state-keeps s at m h t (n t p q)) ∙ k .tells o t p q }
 
   -- w takes the place of v: it tells of the entry's transaction what the entry's type says, and of others what v told
@@ -65,7 +65,7 @@ module _ {s : List ℕ} {at : ℕ} (m : Met s at) (h : Stands s at) where
       → Open s (at + lengthAt s at) r w
   open-next {r} w k within known own others = record { within = within; tells = λ n t p q. tells n t p q (ℕ-discrete (said s at .txn) t) }
     where
-      tells : (w ≡ 1 → ⊥) → (t : ℕ) → 0 < t → t % 65536 ≡ r → Dec (said s at .txn ≡ t) → eqb (stateOf t (before s (at + lengthAt s at))) 1 ≡ isOf s t w
+      tells : (w ≡ 1 → ⊥) → (t : ℕ) → 0 < t → t % 32768 ≡ r → Dec (said s at .txn ≡ t) → eqb (stateOf t (before s (at + lengthAt s at))) 1 ≡ isOf s t w
       tells n t p q (yes e) = ap (λ (x : ℕ). eqb x 1) (state-own s at m h t e) ∙ sym own ∙ ap (λ (u : ℕ). isOf s u w) e
       tells n t p q (no e) = ap (λ (x : ℕ). eqb x 1) (state-keeps s at m h t e) ∙ k .tells (known n) t p q ∙ sym (others t e)
 
@@ -101,9 +101,9 @@ module _ {s : List ℕ} {at : ℕ} (m : Met s at) (h : Stands s at) where
     pub opens-zero : t ≡ 0 → Opens s (at + lengthAt s at) opens
     opens-zero z = record { long = k .long; tell = λ r b. open-other (λ u p q e. omega arith) (k .tell r b) }
 
-    pub opens-next : (w : ℕ) → Open s (at + lengthAt s at) (t % 65536) w → Opens s (at + lengthAt s at) (set opens (t % 65536) w)
-    opens-next w o = record { long = simp length-set (k .long); tell = λ r b. tell r b (ℕ-discrete r (t % 65536)) }
+    pub opens-next : (w : ℕ) → Open s (at + lengthAt s at) (t % 32768) w → Opens s (at + lengthAt s at) (set opens (t % 32768) w)
+    opens-next w o = record { long = simp length-set (k .long); tell = λ r b. tell r b (ℕ-discrete r (t % 32768)) }
       where
-        tell : (r : ℕ) → r < 65536 → Dec (r ≡ t % 65536) → Open s (at + lengthAt s at) r (getD (set opens (t % 65536) w) r 0)
-        tell r b (yes e) = rw (e, getD-set-same opens (t % 65536) w 0 (omega (arith, k .long))) o
-        tell r b (no n) = rw (getD-set-other opens (t % 65536) r w 0 n) (open-other (λ u p q e. n (sym q ∙ ap (λ (x : ℕ). x % 65536) (sym e ∙ sym is))) (k .tell r b))
+        tell : (r : ℕ) → r < 32768 → Dec (r ≡ t % 32768) → Open s (at + lengthAt s at) r (getD (set opens (t % 32768) w) r 0)
+        tell r b (yes e) = rw (e, getD-set-same opens (t % 32768) w 0 (omega (arith, k .long))) o
+        tell r b (no n) = rw (getD-set-other opens (t % 32768) r w 0 n) (open-other (λ u p q e. n (sym q ∙ ap (λ (x : ℕ). x % 32768) (sym e ∙ sym is))) (k .tell r b))

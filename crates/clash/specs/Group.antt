@@ -24,25 +24,25 @@ pub record Ground (s starts : List ℕ) (limit lo hi : ℕ) : Type 0 where
   pub order : lo < hi
   pub within : hi ≤ n
   pub most : n ≤ 4096
-  pub size : getD starts hi 0 ≤ getD starts lo 0 + 131072
+  pub size : getD starts hi 0 ≤ getD starts lo 0 + 163840
 
 -- the cells tell the newest change on each slot of the group before `at`
 pub record Group (s starts cells : List ℕ) (limit lo hi at : ℕ) : Type 0 where
   pub ground : Ground s starts limit lo hi
-  pub long : length cells ≡ 131072
+  pub long : length cells ≡ 163840
   pub tell : Cells (ground .es) lo hi (Newest s at) cells
 
--- the cell of the slot that an entry changes, if it is one of the group; else 131072
+-- the cell of the slot that an entry changes, if it is one of the group; else 163840
 unfoldable pub cellFor : List ℕ → ℕ → ℕ → Entry → ℕ
-cellFor starts lo hi e = pick (both (isChange e) (isIn lo hi e)) (getD starts (pageOf e) 0 - getD starts lo 0 + slotOf e) 131072
+cellFor starts lo hi e = pick (both (isChange e) (isIn lo hi e)) (getD starts (pageOf e) 0 - getD starts lo 0 + slotOf e) 163840
 
 -- what is known of the cell of the entry at `at`, if it has one
 pub record Known (s starts cells : List ℕ) (lo hi at : ℕ) : Type 0 where
   pub rises : isChange (said s at) ≡ true → lo ≤ pageOf (said s at) → pageOf (said s at) < hi → getD starts lo 0 ≤ getD starts (pageOf (said s at)) 0
-  pub fits : isChange (said s at) ≡ true → lo ≤ pageOf (said s at) → pageOf (said s at) < hi → getD starts (pageOf (said s at)) 0 - getD starts lo 0 + slotOf (said s at) < 131072
+  pub fits : isChange (said s at) ≡ true → lo ≤ pageOf (said s at) → pageOf (said s at) < hi → getD starts (pageOf (said s at)) 0 - getD starts lo 0 + slotOf (said s at) < 163840
   pub tells : isChange (said s at) ≡ true → lo ≤ pageOf (said s at) → pageOf (said s at) < hi
       → Newest s at (pageOf (said s at)) (slotOf (said s at)) (getD cells (getD starts (pageOf (said s at)) 0 - getD starts lo 0 + slotOf (said s at)) 0)
 
 -- the cells after the entry at `at`: its own cell, if it has one, holds its place; they stay where it clashes
 unfoldable pub noted : Bool → ℕ → ℕ → List ℕ → List ℕ
-noted clash c at cells = pick (either clash (eqb c 131072)) cells (set cells c at)
+noted clash c at cells = pick (either clash (eqb c 163840)) cells (set cells c at)

@@ -44,8 +44,8 @@ fn entered(log: &[u8], at: usize, kind: u8, t: u64, v: u32) -> u32
     requires { ⌜ (length (now log) ≤ 16777216) × (kind ≡ said (now log) at .kind) × (t ≡ said (now log) at .txn) ⌝ }
     requires { ⌜ Met (now log) at ⌝ }
     requires { ⌜ Stands (now log) at ⌝ }
-    requires { ⌜ Open (now log) at (t % 65536) v ⌝ }
-    ensures { λ r. ⌜ Open (now (log .entry)) (at + lengthAt (now (log .entry)) at) (t % 65536) r ⌝ }
+    requires { ⌜ Open (now log) at (t % 32768) v ⌝ }
+    ensures { λ r. ⌜ Open (now (log .entry)) (at + lengthAt (now (log .entry)) at) (t % 32768) r ⌝ }
 {
     let own = is_of(log, t, v);
     if state_after(kind) == 1 {
@@ -64,7 +64,7 @@ fn entered(log: &[u8], at: usize, kind: u8, t: u64, v: u32) -> u32
 }
 
 // Notes the entry at `at`, of transaction t. Of transaction 0 nothing is kept: none clashes with it.
-fn enter(log: &[u8], at: usize, kind: u8, t: u64, opens: &mut [u32; 65536])
+fn enter(log: &[u8], at: usize, kind: u8, t: u64, opens: &mut [u32; 32768])
     requires { ⌜ (length (now log) ≤ 16777216) × (kind ≡ said (now log) at .kind) × (t ≡ said (now log) at .txn) ⌝ }
     requires { ⌜ Met (now log) at ⌝ }
     requires { ⌜ Stands (now log) at ⌝ }
@@ -74,19 +74,19 @@ fn enter(log: &[u8], at: usize, kind: u8, t: u64, opens: &mut [u32; 65536])
     if t == 0 {
         return;
     }
-    let r = (t % 65536) as usize;
+    let r = (t % 32768) as usize;
     let v = entered(log, at, kind, t, opens[r]);
     opens[r] = v;
 }
 
 // Whether transaction u is open before `at`; by stepping backward where nothing is known of its remainder.
-fn is_open(log: &[u8], at: usize, opens: &[u32; 65536], u: u64) -> bool
+fn is_open(log: &[u8], at: usize, opens: &[u32; 32768], u: u64) -> bool
     requires { ⌜ 0 < u ⌝ }
     requires { ⌜ Met (now log) at ⌝ }
     requires { ⌜ Opens (now log) at (now opens) ⌝ }
     ensures { λ r. ⌜ r ≡ eqb (stateOf u (before (now (log .entry)) at)) 1 ⌝ }
 {
-    let r = (u % 65536) as usize;
+    let r = (u % 32768) as usize;
     let v = opens[r];
     if v == 1 {
         return look_back(log, at, u) == 1;
@@ -95,7 +95,7 @@ fn is_open(log: &[u8], at: usize, opens: &[u32; 65536], u: u64) -> bool
 }
 
 // Whether the change at `at`, by transaction t, clashes with the newest one on its slot, which is by transaction u.
-fn clashes_with(log: &[u8], at: usize, t: u64, u: u64, opens: &[u32; 65536]) -> bool
+fn clashes_with(log: &[u8], at: usize, t: u64, u: u64, opens: &[u32; 32768]) -> bool
     requires { ⌜ (t ≡ said (now log) at .txn) × (isChange (said (now log) at) ≡ true) × (u ≡ newestOn (pageOf (said (now log) at)) (slotOf (said (now log) at)) 0 (before (now log) at)) ⌝ }
     requires { ⌜ Met (now log) at ⌝ }
     requires { ⌜ Opens (now log) at (now opens) ⌝ }
@@ -121,24 +121,24 @@ fn txn_by(log: &[u8], cell: u32) -> u64
     u64_at(log, cell as usize + 12)
 }
 
-// The cell of the slot that the entry at `at` changes, if its page is one of the group; else 131072.
+// The cell of the slot that the entry at `at` changes, if its page is one of the group; else 163840.
 fn cell_for(log: &[u8], at: usize, kind: u8, starts: &[u32; 4097], lo: usize, hi: usize) -> usize
     requires { ⌜ (kind ≡ said (now log) at .kind) × (isShaped (said (now log) at) ≡ true) × (lo ≤ hi) × (hi ≤ 4096) ⌝ }
     requires { ⌜ Stands (now log) at ⌝ }
     requires { ⌜ (isChange (said (now log) at) ≡ true → lo ≤ pageOf (said (now log) at) → pageOf (said (now log) at) < hi → getD (now starts) lo 0 ≤ getD (now starts) (pageOf (said (now log) at)) 0) ⌝ }
     requires { ⌜ (isChange (said (now log) at) ≡ true → lo ≤ pageOf (said (now log) at) → pageOf (said (now log) at) < hi
-        → getD (now starts) (pageOf (said (now log) at)) 0 - getD (now starts) lo 0 + slotOf (said (now log) at) < 131072) ⌝ }
+        → getD (now starts) (pageOf (said (now log) at)) 0 - getD (now starts) lo 0 + slotOf (said (now log) at) < 163840) ⌝ }
     ensures { λ r. ⌜ r ≡ cellFor (now (starts .entry)) lo hi (said (now (log .entry)) at) ⌝ }
 {
     if !is_change(kind) {
-        return 131072;
+        return 163840;
     }
     let i = page_at(log, at, hi);
     if i < lo {
-        return 131072;
+        return 163840;
     }
     if i >= hi {
-        return 131072;
+        return 163840;
     }
     let k = u16_at(log, at + 35) as usize;
     cell_at(starts, lo, i, k)
@@ -154,10 +154,10 @@ fn touch(
     lo: usize,
     hi: usize,
     cells: &mut [u32],
-    opens: &[u32; 65536],
+    opens: &[u32; 32768],
 ) -> bool
     requires { ⌜ (kind ≡ said (now log) at .kind) × (isShaped (said (now log) at) ≡ true) × (lo ≤ hi) × (hi ≤ 4096) ⌝ }
-    requires { ⌜ (t ≡ said (now log) at .txn) × (length (now log) ≤ 16777216) × (length (now cells) ≡ 131072) ⌝ }
+    requires { ⌜ (t ≡ said (now log) at .txn) × (length (now log) ≤ 16777216) × (length (now cells) ≡ 163840) ⌝ }
     requires { ⌜ Met (now log) at ⌝ }
     requires { ⌜ Stands (now log) at ⌝ }
     requires { ⌜ Known (now log) (now starts) (now cells) lo hi at ⌝ }
@@ -166,7 +166,7 @@ fn touch(
     ensures { λ r. ⌜ now (cells .exit) ≡ noted r (cellFor (now (starts .entry)) lo hi (said (now (log .entry)) at)) at (now (cells .entry)) ⌝ }
 {
     let c = cell_for(log, at, kind, starts, lo, hi);
-    if c == 131072 {
+    if c == 163840 {
         return false;
     }
     let u = txn_by(log, cells[c]);
@@ -186,13 +186,13 @@ fn clash_in(
     hi: usize,
     cells: &mut [u32],
 ) -> usize
-    requires { ⌜ (length (now log) ≤ 16777216) × (length (now cells) ≡ 131072) ⌝ }
+    requires { ⌜ (length (now log) ≤ 16777216) × (length (now cells) ≡ 163840) ⌝ }
     requires { ⌜ Met (now log) limit ⌝ }
     requires { ⌜ Ground (now log) (now starts) limit lo hi ⌝ }
     requires { ⌜ Blank (now cells) ⌝ }
     ensures { λ r. ⌜ FirstIn lo hi (now (log .entry)) limit r ⌝ }
 {
-    let mut opens = [0u32; 65536];
+    let mut opens = [0u32; 32768];
     let mut at = FIRST;
     while at < limit {
         let v = standing(log, at);
@@ -240,7 +240,7 @@ fn newest_back(log: &[u8], place: usize, page: u64, slot: u16) -> u64
 }
 
 // Whether the entry at `at` clashes on a page that is none of the first n.
-fn touch_beyond(log: &[u8], at: usize, kind: u8, t: u64, n: usize, opens: &[u32; 65536]) -> bool
+fn touch_beyond(log: &[u8], at: usize, kind: u8, t: u64, n: usize, opens: &[u32; 32768]) -> bool
     requires { ⌜ (kind ≡ said (now log) at .kind) × (t ≡ said (now log) at .txn) × (isShaped (said (now log) at) ≡ true) ⌝ }
     requires { ⌜ Met (now log) at ⌝ }
     requires { ⌜ Stands (now log) at ⌝ }
@@ -266,7 +266,7 @@ fn clash_beyond(log: &[u8], limit: usize, n: usize) -> usize
     requires { ⌜ Shaped (now log) limit ⌝ }
     ensures { λ r. ⌜ FirstIn n (2 ^ 64) (now (log .entry)) limit r ⌝ }
 {
-    let mut opens = [0u32; 65536];
+    let mut opens = [0u32; 32768];
     let mut at = FIRST;
     while at < limit {
         let v = standing(log, at);
@@ -286,7 +286,7 @@ pub fn clash(
     n: usize,
     beyond: usize,
     starts: &[u32; 4097],
-    cells: &mut [u32; 131072],
+    cells: &mut [u32; 163840],
 ) -> usize
     requires { ⌜ (n ≤ 4096) × (length (now log) ≤ 16777216) ⌝ }
     requires { ⌜ Met (now log) stop ⌝ }

@@ -51,7 +51,7 @@ won-none s v = refl
 -- ---- the cells of a page
 
 pub page-cells : {s starts cells : List ℕ} {n lo hi : ℕ} (i : ℕ) → Starts (entries s) n starts → Cells (entries s) lo hi (Decided s) cells → lo ≤ i → i < hi → hi ≤ n → n ≤ 4096
-    → startOf (entries s) hi - startOf (entries s) lo ≤ 131072 → PageCells s lo i starts cells
+    → startOf (entries s) hi - startOf (entries s) lo ≤ 163840 → PageCells s lo i starts cells
 page-cells {s} {starts} {cells} {n} {lo} {hi} i t c l h r q fit =
     record {
       base = t .at lo (omega arith);
@@ -78,14 +78,14 @@ module _ {s starts cells : List ℕ} {lo i : ℕ} (d : PageCells s lo i starts c
   slots-are c = ap (max c) (top-is refl)
 
   module _ {k : ℕ} (touched : k < topOf i (entries s)) where
-    cell-within : cellOf (entries s) lo i k < 131072
+    cell-within : cellOf (entries s) lo i k < 163840
     cell-within = omega (arith, cell-below (entries s) lo i k (d .from) touched (i + 1) (omega arith), d .fits)
 
     pub cell-found : getD starts i 0 - getD starts lo 0 + k ≡ cellOf (entries s) lo i k
     unfolding cellOf
     cell-found = omega (arith, d .start, d .base)
 
-    pub cell-asked : (lo ≤ 4096) × (i ≤ 4096) × (getD starts lo 0 ≤ getD starts i 0) × (getD starts i 0 - getD starts lo 0 + k < 131072)
+    pub cell-asked : (lo ≤ 4096) × (i ≤ 4096) × (getD starts lo 0 ≤ getD starts i 0) × (getD starts i 0 - getD starts lo 0 + k < 163840)
     cell-asked =
         (omega (arith, d .from, d .few), omega (arith, d .few), omega (arith, d .start, d .base, start-rises (entries s) lo i (d .from)), omega (arith, cell-found, cell-within))
 
@@ -94,7 +94,7 @@ module _ {s starts cells : List ℕ} {lo i : ℕ} (d : PageCells s lo i starts c
       decided-at : Decided s i k (getD cells j 0)
       decided-at = subst (λ (x : ℕ). Decided s i k (getD cells x 0)) (sym (at-cell ∙ cell-found)) (d .is k touched)
 
-      pub cell-small : j < 131072
+      pub cell-small : j < 163840
       cell-small = omega (arith, at-cell, cell-found, cell-within)
 
       pub change-named : (getD cells j 0 ≡ 0 → ⊥) → ChangeAt s (getD cells j 0 / 2)

@@ -18,7 +18,7 @@ pub record PageCells (s : List ℕ) (lo i : ℕ) (starts cells : List ℕ) : Typ
   pub next : getD starts (i + 1) 0 ≡ startOf (entries s) (i + 1)
   pub from : lo ≤ i
   pub few : i < 4096
-  pub fits : startOf (entries s) (i + 1) - startOf (entries s) lo ≤ 131072
+  pub fits : startOf (entries s) (i + 1) - startOf (entries s) lo ≤ 163840
   pub is : (k : ℕ) → k < topOf i (entries s) → Decided s i k (getD cells (cellOf (entries s) lo i k) 0)
 
 -- a good Data page

@@ -143,7 +143,7 @@ pub fn slot_image(
     starts: &[u32; 4097],
     lo: usize,
     i: usize,
-    cells: &[u32; 131072],
+    cells: &[u32; 163840],
     k: usize,
 ) -> Image
     requires { ⌜ Ordered (now log) ⌝ }

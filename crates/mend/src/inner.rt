@@ -76,7 +76,7 @@ fn fill(
     starts: &[u32; 4097],
     lo: usize,
     i: usize,
-    cells: &[u32; 131072],
+    cells: &[u32; 163840],
     n: usize,
 ) -> usize
     requires { ⌜ now work ≡ replicate pageBytes 0 ⌝ }
@@ -131,7 +131,7 @@ fn repack(
     starts: &[u32; 4097],
     last: usize,
     lo: usize,
-    cells: &[u32; 131072],
+    cells: &[u32; 163840],
 )
     requires { ⌜ Tables (now t) ⌝ }
     requires { ⌜ now work ≡ replicate pageBytes 0 ⌝ }
@@ -157,7 +157,7 @@ fn mend_page(
     lasts: &[u32; 4096],
     lo: usize,
     i: usize,
-    cells: &[u32; 131072],
+    cells: &[u32; 163840],
 ) -> u64
     requires { ⌜ Tables (now t) ⌝ }
     requires { ⌜ Ordered (now log) ⌝ }
@@ -191,7 +191,7 @@ fn mend_group(
     n: usize,
     lo: usize,
     hi: usize,
-    cells: &[u32; 131072],
+    cells: &[u32; 163840],
 ) -> u64
     requires { ⌜ Tables (now t) ⌝ }
     requires { ⌜ Ordered (now log) ⌝ }
@@ -200,7 +200,7 @@ fn mend_group(
     requires { ⌜ Lasts (now log) (endOf (now log)) n (now lasts) ⌝ }
     requires { ⌜ Touched (now log) (now pages) lo hi ⌝ }
     requires { ⌜ Fitting (now log) (now pages) lo hi ⌝ }
-    requires { ⌜ (length (now pages) ≡ n * pageBytes) × (n ≤ 4096) × (lo < hi) × (hi ≤ n) × (startOf (entries (now log)) hi - startOf (entries (now log)) lo ≤ 131072) ⌝ }
+    requires { ⌜ (length (now pages) ≡ n * pageBytes) × (n ≤ 4096) × (lo < hi) × (hi ≤ n) × (startOf (entries (now log)) hi - startOf (entries (now log)) lo ≤ 163840) ⌝ }
     ensures { λ _. ⌜ now (pages .exit) ≡ take (lo * pageBytes) (now (pages .entry)) ++ (mendedFrom (entries (now (log .entry))) (now (pages .entry)) (hi - lo) lo ++ drop (hi * pageBytes) (now (pages .entry))) ⌝ }
     ensures { λ r. ⌜ r ≡ touchedFrom (entries (now (log .entry))) (hi - lo) lo ⌝ }
 {
@@ -222,7 +222,7 @@ pub fn mend_all(
     n: usize,
     starts: &[u32; 4097],
     lasts: &[u32; 4096],
-    cells: &mut [u32; 131072],
+    cells: &mut [u32; 163840],
     memo: &mut [u32; 16384],
 ) -> u64
     requires { ⌜ Tables (now t) ⌝ }

@@ -127,7 +127,7 @@ module _ (magic floor : ℕ) (pages log : List ℕ) (i k : ℕ) where
       from (inr z) = inr (omega (arith, h .long, z .0))
 
 -- ---- one page is a group
-pub one-fits : {s : List ℕ} → Bytes s → (i : ℕ) → startOf (entries s) (i + 1) - startOf (entries s) i ≤ 131072
+pub one-fits : {s : List ℕ} → Bytes s → (i : ℕ) → startOf (entries s) (i + 1) - startOf (entries s) i ≤ 163840
 one-fits {s} b i =
     let e : suc i ≡ i + 1 = omega arith in
     let n : startOf (entries s) (i + 1) ≡ startOf (entries s) i + topOf i (entries s) = rw e at (start-next (entries s) i) in

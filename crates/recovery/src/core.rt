@@ -67,7 +67,7 @@ fn run(
     records: u64,
     starts: &mut [u32; 4097],
     lasts: &mut [u32; 4096],
-    cells: &mut [u32; 131072],
+    cells: &mut [u32; 163840],
     memo: &mut [u32; 16384],
 ) -> Answer
     requires { ⌜ Tables (now t) ⌝ }
@@ -105,7 +105,7 @@ pub fn recover(magic: u64, floor: Lsn, pages: &mut [u8], log: &[u8], records: u6
     let t = tables();
     let mut starts = [0u32; 4097];
     let mut lasts = [0u32; 4096];
-    let mut cells = [0u32; 131072];
+    let mut cells = [0u32; 163840];
     let mut memo = [0u32; 16384];
     run(
         &t,

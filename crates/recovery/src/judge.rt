@@ -37,7 +37,7 @@ pub fn judge(
     records: u64,
     starts: &mut [u32; 4097],
     lasts: &mut [u32; 4096],
-    cells: &mut [u32; 131072],
+    cells: &mut [u32; 163840],
     memo: &mut [u32; 16384],
 ) -> Walked
     requires { ⌜ Tables (now t) ⌝ }

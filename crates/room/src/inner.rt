@@ -29,7 +29,7 @@ fn room(
     starts: &[u32; 4097],
     lo: usize,
     i: usize,
-    cells: &[u32; 131072],
+    cells: &[u32; 163840],
 ) -> usize
     requires { ⌜ Ordered (now log) ⌝ }
     requires { ⌜ PageCells (now log) lo i (now starts) (now cells) ⌝ }
@@ -54,7 +54,7 @@ fn is_tight(
     starts: &[u32; 4097],
     lo: usize,
     i: usize,
-    cells: &[u32; 131072],
+    cells: &[u32; 163840],
 ) -> bool
     requires { ⌜ Ordered (now log) ⌝ }
     requires { ⌜ PageCells (now log) lo i (now starts) (now cells) ⌝ }
@@ -78,13 +78,13 @@ fn tight_in(
     n: usize,
     lo: usize,
     hi: usize,
-    cells: &[u32; 131072],
+    cells: &[u32; 163840],
 ) -> usize
     requires { ⌜ Ordered (now log) ⌝ }
     requires { ⌜ Starts (entries (now log)) n (now starts) ⌝ }
     requires { ⌜ Cells (entries (now log)) lo hi (Decided (now log)) (now cells) ⌝ }
     requires { ⌜ Touched (now log) (now pages) lo hi ⌝ }
-    requires { ⌜ (n ≡ pagesIn (now pages)) × (n ≤ 4096) × (lo < hi) × (hi ≤ n) × (startOf (entries (now log)) hi - startOf (entries (now log)) lo ≤ 131072) ⌝ }
+    requires { ⌜ (n ≡ pagesIn (now pages)) × (n ≤ 4096) × (lo < hi) × (hi ≤ n) × (startOf (entries (now log)) hi - startOf (entries (now log)) lo ≤ 163840) ⌝ }
     ensures { λ r. ⌜ (lo ≤ r) × (r ≤ hi) × (tightFrom (entries (now (log .entry))) (now (pages .entry)) (n - lo) lo ≡ pick (ltb r hi) (verdict pageOverfull r) (tightFrom (entries (now (log .entry))) (now (pages .entry)) (n - hi) hi)) ⌝ }
 {
     let mut i = lo;
@@ -104,7 +104,7 @@ pub fn tight(
     pages: &[u8],
     n: usize,
     starts: &[u32; 4097],
-    cells: &mut [u32; 131072],
+    cells: &mut [u32; 163840],
     memo: &mut [u32; 16384],
 ) -> usize
     requires { ⌜ Ordered (now log) ⌝ }

@@ -14,7 +14,7 @@ use Rattle.clash.proofs.inner.touch.Statement.{statement}
 use Rattle.clash.proofs.inner.touch.Tie as tie
 
 -- what is known of an entry with a cell
-fits : (c : tie.Else1) → c .before .cell-for .result < 131072
+fits : (c : tie.Else1) → c .before .cell-for .result < 163840
 fits c = own-fits (c .before .before .before .before .pre .1 .1 .1 .1 .0) _ (c .before .cell-for .ensures) (c .if1 .left)
 
 tells : (c : tie.Else1) → Newest (c .before .before .before .before .args .log .now) (c .before .before .before .before .args .at)

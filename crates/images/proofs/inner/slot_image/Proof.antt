@@ -17,7 +17,7 @@ paged-cells c = c .before .before .before .before .before .pre .1 .0
 touched : (c : tie.Else1) → c .before .before .before .before .before .args .k < topOf (c .before .before .before .before .before .args .i) (entries (c .before .before .before .before .before .args .log .now))
 touched c = omega (arith, top-is (paged-cells c) (c .before .top-of .ensures), c .if1 .left)
 
-found : (c : tie.After-cell-at) → c .cell-at .result < 131072
+found : (c : tie.After-cell-at) → c .cell-at .result < 163840
 found c = cell-small (paged-cells (c .before)) (touched (c .before)) (c .cell-at .ensures)
 
 top-of-requires : tie.Need-top-of-requires

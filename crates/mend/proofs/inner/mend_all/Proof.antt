@@ -25,7 +25,7 @@ bytes c = record { at = λ i. omega (arith, c .shared-slice-known .given i) }
 
 -- the cells of the group fit
 fits : (c : tie.After-group-end Inv-loop μ-loop) → let l = c .before .before in let a = l .before .before .before .args in
-    startOf (entries (a .log .now)) (c .group-end .result) - startOf (entries (a .log .now)) (l .loop .lo) ≤ 131072
+    startOf (entries (a .log .now)) (c .group-end .result) - startOf (entries (a .log .now)) (l .loop .lo) ≤ 163840
 fits c =
     let l = c .before .before in
     let s = l .before .before .before in

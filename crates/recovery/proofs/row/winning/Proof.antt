@@ -14,7 +14,7 @@ use borrow.Author.Needs.{needs}
 use Rattle.recovery.proofs.row.winning.Statement.{statement}
 use Rattle.recovery.proofs.row.winning.Tie as tie
 
-fits : (c : tie.After-decide-arg2) → let a = c .before .before .before .before .args in startOf (entries (a .log .now)) (a .i + 1) - startOf (entries (a .log .now)) (a .i) ≤ 131072
+fits : (c : tie.After-decide-arg2) → let a = c .before .before .before .before .args in startOf (entries (a .log .now)) (a .i + 1) - startOf (entries (a .log .now)) (a .i) ≤ 163840
 fits c = one-fits (record { at = λ i. omega (arith, c .before .before .before .shared-slice-known .given i) }) _
 
 decide-requires : tie.Need-decide-requires
