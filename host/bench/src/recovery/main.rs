@@ -15,8 +15,9 @@ use workload::{Input, Size, Workload, MAGIC, SIZES, WORKLOADS};
 
 const RUNS: usize = 5;
 
-/// The goals: (a) at most this many times copying and summing, the others at most this many times (a), and time at most
+/// The goals speak of the first so many workloads: (a) at most this many times copying and summing, the others at most this many times (a), and time at most
 /// this many times as fast as bytes.
+const WITH_GOALS: usize = 5;
 const MOST_OF_COPY: f64 = 5.0;
 const MOST_OF_A: f64 = 3.0;
 const MOST_GROWTH: f64 = 1.3;
@@ -185,7 +186,7 @@ fn growth((large, of_large): (Size, f64), (small, of_small): (Size, f64)) -> f64
     of_large / of_small / (large.bytes() as f64 / small.bytes() as f64)
 }
 
-/// Prints how times grow, and gives back the largest figure of the library.
+/// Prints how times grow, and gives back the library's largest figure among the workloads with goals.
 fn print_growth(measured: &[Vec<Times>]) -> f64 {
     let [full, half, quarter] = SIZES;
     println!(
@@ -193,7 +194,7 @@ fn print_growth(measured: &[Vec<Times>]) -> f64 {
     );
     println!("{:<36}{:>20}{:>20}", "", "quarter to half", "half to full");
     let mut worst: f64 = 0.0;
-    for (workload, times) in WORKLOADS.iter().zip(measured) {
+    for (at, (workload, times)) in WORKLOADS.iter().zip(measured).enumerate() {
         let step = |large: Size, at: usize, small: Size| {
             let of = |of: fn(&Times) -> f64| {
                 growth((large, of(&times[at])), (small, of(&times[at + 1])))
@@ -209,7 +210,9 @@ fn print_growth(measured: &[Vec<Times>]) -> f64 {
             shown(to_half),
             shown(to_full)
         );
-        worst = worst.max(to_half.0).max(to_full.0);
+        if at < WITH_GOALS {
+            worst = worst.max(to_half.0).max(to_full.0);
+        }
     }
     worst
 }
@@ -242,12 +245,12 @@ fn main() {
         few.library / few.copy,
         MOST_OF_COPY,
     );
-    for (workload, times) in WORKLOADS.iter().zip(&measured).skip(1) {
+    for (workload, times) in WORKLOADS.iter().zip(&measured).take(WITH_GOALS).skip(1) {
         let name = format!("({}) in terms of (a)", workload.name);
         goal(&name, times[0].library / few.library, MOST_OF_A);
     }
     goal(
-        "growth of time in terms of bytes, all workloads",
+        "growth of time in terms of bytes, (a) to (e)",
         worst,
         MOST_GROWTH,
     );
