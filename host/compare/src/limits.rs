@@ -69,6 +69,12 @@ const LIMITS: &[Limit] = &[
         0,
     ),
     ("no pages and no log", nothing, 3),
+    (
+        "slots handed on, numbers that collide",
+        || handed_on(false),
+        0,
+    ),
+    ("a clash, numbers that collide", || handed_on(true), 9),
 ];
 
 /// Seed, name and recovery's number of every case.
@@ -423,6 +429,31 @@ fn colliding_numbers() -> Input {
     log.put(Entry::bare(1, BEGIN));
     log.put(Entry::insert(1, 0, 100, &tuple(50)));
     Input::new(area(12), log)
+}
+
+/// Transactions whose numbers have one remainder change the same slots one after the other while the first holds a slot of
+/// its own; the last may change that one.
+fn handed_on(clash: bool) -> Input {
+    let number = |k: u64| (k + 1) << 20;
+    let update = |k, page, slot| Entry::update(number(k), page, slot, &tuple(38), &tuple(39));
+    let mut log = Log::new();
+    log.put(Entry::bare(number(0), BEGIN));
+    log.put(update(0, 1, 0));
+    for k in 1..300 {
+        log.put(Entry::bare(number(k), BEGIN));
+        log.put(update(k, 0, (k % 7) as u16));
+        let end = if k % 3 == 0 { ROLLBACK } else { COMMIT };
+        log.put(Entry::bare(number(k), end));
+    }
+    log.put(Entry::bare(number(300), BEGIN));
+    let place = log.place();
+    log.put(update(300, u64::from(clash), 0));
+    let input = Input::new(area(2), log);
+    if clash {
+        input.refused_at(place)
+    } else {
+        input
+    }
 }
 
 /// Not even a header.
