@@ -43,8 +43,9 @@ pub fn machine(bytes: &[u8]) -> u32 {
     oracle::crc32c(bytes)
 }
 
-/// Copies the bytes and sums the copy.
+/// Copies the bytes to the front of a buffer and sums the copy.
 pub fn copy_and_sum(from: &[u8], to: &mut [u8]) -> u32 {
+    let to = &mut to[..from.len()];
     to.copy_from_slice(from);
     machine(to)
 }

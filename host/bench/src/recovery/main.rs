@@ -66,66 +66,54 @@ fn seconds<T>(call: impl FnOnce() -> T) -> f64 {
     start.elapsed().as_secs_f64()
 }
 
-/// What one workload is measured on at one size: made once, and filled anew before each run.
-struct Bench {
-    input: Input,
-    bytes: Vec<u8>,
-    pages: Vec<u8>,
-    table: Vec<u64>,
-    records: Vec<Record>,
-    copy: Vec<u8>,
+/// The input of a workload at a size, once both programs have agreed on it.
+fn prepare(workload: &Workload, size: Size) -> Input {
+    let input = workload.input(size);
+    let answer = check(&input);
+    println!(
+        "({}) at {} size: {} entries in {} log bytes, {} transactions, {} pages rewritten",
+        workload.name,
+        size.name,
+        answer.last_lsn,
+        input.log.len(),
+        input.records,
+        answer.pages_rewritten
+    );
+    input
 }
 
-impl Bench {
-    fn new(workload: &Workload, size: Size) -> Bench {
-        let input = workload.input(size);
-        let answer = check(&input);
-        println!(
-            "({}) at {} size: {} entries in {} log bytes, {} transactions, {} pages rewritten",
-            workload.name,
-            size.name,
-            answer.last_lsn,
-            input.log.len(),
-            input.records,
-            answer.pages_rewritten
-        );
-        let bytes = [&input.pages[..], &input.log[..]].concat();
-        Bench {
-            pages: input.pages.clone(),
-            table: vec![0; input.records * RECORD_NUMBERS],
-            records: vec![Record::default(); input.records],
-            copy: vec![0; bytes.len()],
-            bytes,
-            input,
-        }
-    }
-
-    /// One run of each.
-    fn run(&mut self) -> Times {
-        self.pages.copy_from_slice(&self.input.pages);
-        let library = seconds(|| by_library(&self.input, &mut self.pages, &mut self.table));
-        self.pages.copy_from_slice(&self.input.pages);
-        let oracle = seconds(|| by_oracle(&self.input, &mut self.pages, &mut self.records));
-        let copy = seconds(|| copy_and_sum(black_box(&self.bytes), &mut self.copy));
-        Times {
-            library,
-            oracle,
-            copy,
-        }
+/// One run of each on an input. Its buffers are new, so that where they happen to lie in memory differs from run to run.
+fn run(input: &Input) -> Times {
+    let input = &input.clone();
+    let mut pages = input.pages.clone();
+    let mut table = vec![1; input.records * RECORD_NUMBERS];
+    let library = seconds(|| by_library(input, &mut pages, &mut table));
+    let mut records = vec![Record::default(); input.records];
+    pages.copy_from_slice(&input.pages);
+    let oracle = seconds(|| by_oracle(input, &mut pages, &mut records));
+    let copy =
+        seconds(|| [&input.pages, &input.log].map(|it| copy_and_sum(black_box(it), &mut pages)));
+    Times {
+        library,
+        oracle,
+        copy,
     }
 }
 
-/// The best times of a workload at each size. The sizes take turns, so that a slow spell of the machine falls on all of
-/// them.
-fn measure(workload: &Workload) -> Vec<Times> {
-    let mut benches: Vec<Bench> = SIZES
+/// The best times of every workload at every size. All of them take turns, so that a slow spell of the machine falls on
+/// few runs of each.
+fn measure() -> Vec<Vec<Times>> {
+    let inputs: Vec<Vec<Input>> = WORKLOADS
         .iter()
-        .map(|&size| Bench::new(workload, size))
+        .map(|it| SIZES.iter().map(|&size| prepare(it, size)).collect())
         .collect();
-    let mut best: Vec<Times> = benches.iter_mut().map(Bench::run).collect();
+    let round = || -> Vec<Vec<Times>> {
+        let times = |sizes: &Vec<Input>| sizes.iter().map(run).collect();
+        inputs.iter().map(times).collect()
+    };
+    let mut best = round();
     for _ in 1..RUNS {
-        for (best, bench) in best.iter_mut().zip(&mut benches) {
-            let times = bench.run();
+        for (best, times) in best.iter_mut().flatten().zip(round().iter().flatten()) {
             best.library = best.library.min(times.library);
             best.oracle = best.oracle.min(times.oracle);
             best.copy = best.copy.min(times.copy);
@@ -181,27 +169,21 @@ fn print_times<'a>(
     }
 }
 
-/// How many times as fast as the bytes a time grows from a smaller size to a larger one.
-fn growth((large, of_large): (Size, f64), (small, of_small): (Size, f64)) -> f64 {
-    of_large / of_small / (large.bytes() as f64 / small.bytes() as f64)
-}
-
 /// Prints how times grow, and gives back the library's largest figure among the workloads with goals.
 fn print_growth(measured: &[Vec<Times>]) -> f64 {
-    let [full, half, quarter] = SIZES;
     println!(
         "\nGrowth: time from a size to the next, in terms of the bytes (that of copy and crc32)"
     );
     println!("{:<36}{:>20}{:>20}", "", "quarter to half", "half to full");
     let mut worst: f64 = 0.0;
     for (at, (workload, times)) in WORKLOADS.iter().zip(measured).enumerate() {
-        let step = |large: Size, at: usize, small: Size| {
-            let of = |of: fn(&Times) -> f64| {
-                growth((large, of(&times[at])), (small, of(&times[at + 1])))
-            };
-            (of(|it| it.library), of(|it| it.copy))
+        // From the size behind a size in the list to that size.
+        let step = |large: usize, of: fn(&Times) -> f64| {
+            let bytes = SIZES[large].bytes() as f64 / SIZES[large + 1].bytes() as f64;
+            of(&times[large]) / of(&times[large + 1]) / bytes
         };
-        let (to_half, to_full) = (step(half, 1, quarter), step(full, 0, half));
+        let [to_half, to_full] =
+            [1, 0].map(|large| (step(large, |it| it.library), step(large, |it| it.copy)));
         let shown = |(library, copy): (f64, f64)| format!("{library:.2} ({copy:.2})");
         println!(
             "({}) {:<32}{:>20}{:>20}",
@@ -227,7 +209,7 @@ fn main() {
     if !has_instruction() {
         println!("This machine has no crc32 instruction: a table stands in for it.");
     }
-    let measured: Vec<Vec<Times>> = WORKLOADS.iter().map(measure).collect();
+    let measured = measure();
     let beside: Vec<Result<Sqlite, String>> = SIZES.into_iter().map(sqlite).collect();
     for (at, (size, sqlite)) in SIZES.into_iter().zip(&beside).enumerate() {
         print_times(size, measured.iter().map(|times| &times[at]), sqlite);

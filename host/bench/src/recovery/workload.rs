@@ -106,6 +106,7 @@ pub const WORKLOADS: [Workload; 7] = [
 ];
 
 /// What recovery is lent.
+#[derive(Clone)]
 pub struct Input {
     pub pages: Vec<u8>,
     pub log: Vec<u8>,
