@@ -15,8 +15,8 @@ use workload::{Input, Size, Workload, MAGIC, SIZES, WORKLOADS};
 
 const RUNS: usize = 5;
 
-/// The goals speak of the first so many workloads: (a) at most this many times copying and summing, the others at most this many times (a), and time at most
-/// this many times as fast as bytes.
+/// The goals speak of the first so many workloads: (a) at most this many times copying and summing, the others at most
+/// this many times (a), and time at most this many times as fast as bytes.
 const WITH_GOALS: usize = 5;
 const MOST_OF_COPY: f64 = 5.0;
 const MOST_OF_A: f64 = 3.0;
@@ -87,10 +87,10 @@ fn run(input: &Input) -> Times {
     let input = &input.clone();
     let mut pages = input.pages.clone();
     let mut table = vec![1; input.records * RECORD_NUMBERS];
-    let library = seconds(|| by_library(input, &mut pages, &mut table));
+    let library = seconds(|| assert_eq!(by_library(input, &mut pages, &mut table).number, 0));
     let mut records = vec![Record::default(); input.records];
     pages.copy_from_slice(&input.pages);
-    let oracle = seconds(|| by_oracle(input, &mut pages, &mut records));
+    let oracle = seconds(|| assert_eq!(by_oracle(input, &mut pages, &mut records).number, 0));
     let copy =
         seconds(|| [&input.pages, &input.log].map(|it| copy_and_sum(black_box(it), &mut pages)));
     Times {
