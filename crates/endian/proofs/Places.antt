@@ -143,6 +143,13 @@ number-rest i at l e =
           let k : length l ≤ at = omega arith in rw (z, drop-length, drop-of-length-le l k)
     ]
 
+-- a byte is a number of one
+pub set-byte : (d : List ℕ) (at v : ℕ) → at < length d → v < 256 → set d at v ≡ paste d at (bytesOf 1 v) 1
+unfolding bytesOf
+set-byte d at v h b =
+    let e : v % 256 ≡ v = omega arith in
+    rw e (sets-eq (v ∷ []) d at (omega arith))
+
 -- a byte and the byte after it are a number of two
 pub stored-two : (at n : ℕ) (d : List ℕ) → at + 2 ≤ length d → n < 65536 → set (set d at (n % 256)) (at + 1) (n / 256) ≡ paste d at (bytesOf 2 n) 2
 unfolding bytesOf

@@ -18,6 +18,13 @@ pub fn u16_at(s: &[u8], at: usize) -> u16
     wide(s[at]) + 256 * wide(s[at + 1])
 }
 
+pub fn u24_at(s: &[u8], at: usize) -> u32
+    requires { ⌜ at + 3 ≤ length (now s) ⌝ }
+    ensures { λ r. ⌜ r ≡ numberAt 3 at (now (s .entry)) ⌝ }
+{
+    (u16_at(s, at) as u32) + 65536 * (wide(s[at + 2]) as u32)
+}
+
 pub fn u32_at(s: &[u8], at: usize) -> u32
     requires { ⌜ at + 4 ≤ length (now s) ⌝ }
     ensures { λ r. ⌜ r ≡ numberAt 4 at (now (s .entry)) ⌝ }
@@ -53,6 +60,14 @@ pub fn put_u16(s: &mut [u8], at: usize, n: u16)
 {
     s[at] = (n % 256) as u8;
     s[at + 1] = (n / 256) as u8;
+}
+
+pub fn put_u24(s: &mut [u8], at: usize, n: u32)
+    requires { ⌜ (at + 3 ≤ length (now s)) × (n < 16777216) ⌝ }
+    ensures { λ _. ⌜ now (s .exit) ≡ paste (now (s .entry)) at (bytesOf 3 n) 3 ⌝ }
+{
+    put_u16(s, at, (n % 65536) as u16);
+    s[at + 2] = (n / 65536) as u8;
 }
 
 pub fn put_u32(s: &mut [u8], at: usize, n: u32)

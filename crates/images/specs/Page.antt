@@ -1,5 +1,5 @@
--- What is known of one page once the cells of its group are decided.
-use Prim.Native.Nat.{ℕ, _+_, _-_, _≤_, _<_}
+-- What is known of one page once its slots are decided.
+use Prim.Native.Nat.{ℕ, _+_, _≤_, _<_}
 use mathlib.Core.Path.{_≡_}
 use mathlib.Core.List.{List}
 use lib.ListN.{length, getD}
@@ -8,18 +8,16 @@ use Rattle.page.specs.Layout.{pageBytes, bodyBytes, pageAt}
 use Rattle.page.specs.Packed.{roomFor}
 use Rattle.page.specs.Good.{DataGood}
 use Rattle.rules.specs.Mend.{committed, topOf, slotsFor}
-use Rattle.cells.specs.Cell.{startOf, cellOf}
-use Rattle.decide.specs.Decide.{Decided}
+use Rattle.cells.specs.Cell.{startOf}
+use Rattle.decide.specs.Lists.{PageDecided}
 
--- in a group that starts at page lo: where the cells of page i start and end, and that each says what is decided of its slot
-pub record PageCells (s : List ℕ) (lo i : ℕ) (starts cells : List ℕ) : Type 0 where
-  pub base : getD starts lo 0 ≡ startOf (entries s) lo
+-- where the cells of page i would start and end among those of all pages, and that each of its cells says what is decided of its slot
+pub record PageCells (s : List ℕ) (i : ℕ) (starts cells : List ℕ) : Type 0 where
   pub start : getD starts i 0 ≡ startOf (entries s) i
   pub next : getD starts (i + 1) 0 ≡ startOf (entries s) (i + 1)
-  pub from : lo ≤ i
   pub few : i < 4096
-  pub fits : startOf (entries s) (i + 1) - startOf (entries s) lo ≤ 163840
-  pub is : (k : ℕ) → k < topOf i (entries s) → Decided s i k (getD cells (cellOf (entries s) lo i k) 0)
+  pub fits : topOf i (entries s) ≤ 4080
+  pub is : PageDecided s i cells
 
 -- a good Data page
 pub record Sound (p : List ℕ) : Type 0 where

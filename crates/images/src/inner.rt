@@ -14,7 +14,6 @@ ghost use Rattle.decide.specs.Decide.{won, ChangeAt};
 ghost use Rattle.images.specs.Tuples.{logged, deleted, paged, InLog, InPage, Stood};
 ghost use Rattle.images.specs.Page.{PageCells, Sound};
 use crate::Image;
-use cells::inner::cell_at;
 use endian::TxnNumber;
 use page::HEAD_BYTES;
 use page::inner::count;
@@ -119,8 +118,8 @@ pub fn kept_image(page: &[u8], k: usize) -> Image
 }
 
 // One more than the highest touched slot of page i, by the starts of the pages.
-fn top_of(starts: &[u32], i: usize) -> usize
-    requires { ⌜ (i + 1 < length (now starts)) × (getD (now starts) i 0 ≤ getD (now starts) (i + 1) 0) ⌝ }
+pub fn top_of(starts: &[u32; 4097], i: usize) -> usize
+    requires { ⌜ (i < 4096) × (getD (now starts) i 0 ≤ getD (now starts) (i + 1) 0) ⌝ }
     ensures { λ r. ⌜ r ≡ getD (now (starts .entry)) (i + 1) 0 - getD (now (starts .entry)) i 0 ⌝ }
 {
     (starts[i + 1] - starts[i]) as usize
@@ -132,7 +131,7 @@ pub fn slots_for(page: &[u8], starts: &[u32; 4097], i: usize) -> usize
     ensures { λ r. ⌜ r ≡ max (countOf (now (page .entry))) (getD (now (starts .entry)) (i + 1) 0 - getD (now (starts .entry)) i 0) ⌝ }
 {
     let own = count(page);
-    let top = top_of(&starts[..], i);
+    let top = top_of(starts, i);
     if own < top { top } else { own }
 }
 
@@ -141,21 +140,19 @@ pub fn slot_image(
     log: &[u8],
     page: &[u8],
     starts: &[u32; 4097],
-    lo: usize,
     i: usize,
-    cells: &[u32; 163840],
+    cells: &[u32; 4080],
     k: usize,
 ) -> Image
     requires { ⌜ Ordered (now log) ⌝ }
-    requires { ⌜ PageCells (now log) lo i (now starts) (now cells) ⌝ }
+    requires { ⌜ PageCells (now log) i (now starts) (now cells) ⌝ }
     requires { ⌜ Sound (now page) ⌝ }
     ensures { λ r. ⌜ Stood (now (log .entry)) (now (page .entry)) r (decided (committed (entries (now (log .entry)))) (entries (now (log .entry))) i k (slotAt (now (page .entry)) k)) ⌝ }
 {
-    let top = top_of(&starts[..], i);
-    if top <= k {
+    if top_of(starts, i) <= k {
         return kept_image(page, k);
     }
-    let c = cells[cell_at(starts, lo, i, k)];
+    let c = cells[k];
     if c == 0 {
         return kept_image(page, k);
     }

@@ -8,12 +8,11 @@ use lib.ListN.{length, take, drop, set, length-append, length-drop, take-append-
 use lib.Seq.{paste, take-length, take-all, length-take-le, length-paste, drop-drop}
 use Rattle.endian.specs.Numbers.{part, bytesOf}
 use Rattle.endian.proofs.Numbers.{length-bytesOf}
-use Rattle.endian.proofs.Places.{paste-two}
+use Rattle.endian.proofs.Places.{paste-two, set-byte}
 use Rattle.page.specs.Layout.{pageBytes, headBytes, bodyBytes}
 use Rattle.page.specs.Packed.{slotBytes}
 use Rattle.page.specs.Writer.{withSlot}
 use Rattle.page.proofs.Writing.{paste-at}
-use Rattle.page.proofs.Pasting.{set-byte}
 use Rattle.rules.specs.Shape.{stamped}
 use Rattle.rules.proofs.ImageLaws.{stamped-length}
 

@@ -13,13 +13,13 @@ ghost use Rattle.page.specs.Writer.{withSlot};
 ghost use Rattle.rules.specs.Order.{one};
 ghost use Rattle.rules.specs.Mend.{committed, topOf, slotsFor, repacked, mend};
 ghost use Rattle.rules.specs.Recover.{isTouched, mendedFrom, touchedFrom};
-ghost use Rattle.fates.specs.Fate.{Ordered, Memo};
-ghost use Rattle.cells.specs.Cell.{Starts, startOf, Cells};
+ghost use Rattle.fates.specs.Fate.{Ordered};
+ghost use Rattle.cells.specs.Cell.{Starts};
+ghost use Rattle.cells.specs.Listing.{Lists};
 ghost use Rattle.cells.specs.Measure.{LastAt, Lasts};
-ghost use Rattle.decide.specs.Decide.{Decided};
+ghost use Rattle.decide.specs.Lists.{Listed};
 ghost use Rattle.images.specs.Tuples.{Lies, tupleIn};
 ghost use Rattle.images.specs.Page.{PageCells, Sound, Touched, Fitting};
-use cells::inner::group_end;
 use decide::inner::decide;
 use endian::Lsn;
 use endian::inner::put_u64;
@@ -27,6 +27,7 @@ use endian::inner::u64_at;
 use images::Image;
 use images::inner::slot_image;
 use images::inner::slots_for;
+use images::inner::top_of;
 use page::BODY_BYTES;
 use page::HEAD_BYTES;
 use page::PAGE_BYTES;
@@ -74,14 +75,13 @@ fn fill(
     log: &[u8],
     page: &[u8],
     starts: &[u32; 4097],
-    lo: usize,
     i: usize,
-    cells: &[u32; 163840],
+    cells: &[u32; 4080],
     n: usize,
 ) -> usize
     requires { ⌜ now work ≡ replicate pageBytes 0 ⌝ }
     requires { ⌜ Ordered (now log) ⌝ }
-    requires { ⌜ PageCells (now log) lo i (now starts) (now cells) ⌝ }
+    requires { ⌜ PageCells (now log) i (now starts) (now cells) ⌝ }
     requires { ⌜ Sound (now page) ⌝ }
     requires { ⌜ (n ≡ max (countOf (now page)) (topOf i (entries (now log)))) × (roomFor (slotsFor (committed (entries (now log))) (entries (now log)) i (now page)) ≤ bodyBytes) ⌝ }
     ensures { λ r. ⌜ r ≡ bodyBytes - tupleBytes (slotsFor (committed (entries (now (log .entry)))) (entries (now (log .entry))) i (now (page .entry))) ⌝ }
@@ -90,7 +90,7 @@ fn fill(
     let mut top = BODY_BYTES;
     let mut k: usize = 0;
     while k < n {
-        let m = slot_image(log, page, starts, lo, i, cells, k);
+        let m = slot_image(log, page, starts, i, cells, k);
         top = put_image(work, k, top, log, page, m);
         k += 1;
     }
@@ -130,20 +130,19 @@ fn repack(
     i: usize,
     starts: &[u32; 4097],
     last: usize,
-    lo: usize,
-    cells: &[u32; 163840],
+    cells: &[u32; 4080],
 )
     requires { ⌜ Tables (now t) ⌝ }
     requires { ⌜ now work ≡ replicate pageBytes 0 ⌝ }
     requires { ⌜ Ordered (now log) ⌝ }
-    requires { ⌜ PageCells (now log) lo i (now starts) (now cells) ⌝ }
+    requires { ⌜ PageCells (now log) i (now starts) (now cells) ⌝ }
     requires { ⌜ Sound (now page) ⌝ }
     requires { ⌜ LastAt (now log) (endOf (now log)) i last ⌝ }
     requires { ⌜ roomFor (slotsFor (committed (entries (now log))) (entries (now log)) i (now page)) ≤ bodyBytes ⌝ }
     ensures { λ _. ⌜ now (work .exit) ≡ repacked (committed (entries (now (log .entry)))) (entries (now (log .entry))) i (now (page .entry)) ⌝ }
 {
     let n = slots_for(page, starts, i);
-    let top = fill(work, log, page, starts, lo, i, cells, n);
+    let top = fill(work, log, page, starts, i, cells, n);
     let h = head_for(log, page, last);
     seal(t, work, h, &page[36..64], n, top);
 }
@@ -153,96 +152,84 @@ fn mend_page(
     t: &[u32; 2048],
     log: &[u8],
     pages: &mut [u8],
+    n: usize,
     starts: &[u32; 4097],
     lasts: &[u32; 4096],
-    lo: usize,
+    lists: &[u32; 4097],
+    fronts: &[u32; 4096],
+    space: &[u8; 655360],
     i: usize,
-    cells: &[u32; 163840],
+    cells: &mut [u32; 4080],
 ) -> u64
     requires { ⌜ Tables (now t) ⌝ }
     requires { ⌜ Ordered (now log) ⌝ }
-    requires { ⌜ PageCells (now log) lo i (now starts) (now cells) ⌝ }
-    requires { ⌜ (0 < topOf i (entries (now log)) → LastAt (now log) (endOf (now log)) i (getD (now lasts) i 0)) ⌝ }
-    requires { ⌜ (0 < topOf i (entries (now log)) → Sound (pageAt i (now pages))) ⌝ }
-    requires { ⌜ (0 < topOf i (entries (now log)) → roomFor (slotsFor (committed (entries (now log))) (entries (now log)) i (pageAt i (now pages))) ≤ bodyBytes) ⌝ }
-    requires { ⌜ i * pageBytes + pageBytes ≤ length (now pages) ⌝ }
+    requires { ⌜ Starts (entries (now log)) n (now starts) ⌝ }
+    requires { ⌜ Lasts (now log) (endOf (now log)) n (now lasts) ⌝ }
+    requires { ⌜ Lists (entries (now log)) n (now lists) ⌝ }
+    requires { ⌜ Listed (now log) n (now fronts) (now space) ⌝ }
+    requires { ⌜ Touched (now log) (now pages) i (i + 1) ⌝ }
+    requires { ⌜ Fitting (now log) (now pages) i (i + 1) ⌝ }
+    requires { ⌜ (i < n) × (n ≤ 4096) × (length (now log) ≤ 16777216) × (length (now pages) ≡ n * pageBytes) ⌝ }
     ensures { λ _. ⌜ now (pages .exit) ≡ paste (now (pages .entry)) (i * pageBytes) (mend (entries (now (log .entry))) i (pageAt i (now (pages .entry)))) pageBytes ⌝ }
     ensures { λ r. ⌜ r ≡ one (isTouched (entries (now (log .entry))) i) ⌝ }
 {
-    if starts[i] == starts[i + 1] {
+    let top = top_of(starts, i);
+    if top == 0 {
         return 0;
     }
+    decide(log, n, lists, fronts, space, i, top, cells);
     let a = i * PAGE_BYTES;
     let e = a + PAGE_BYTES;
     let last = lasts[i] as usize;
     let mut work = [0u8; PAGE_BYTES];
-    repack(t, &mut work, log, &pages[a..e], i, starts, last, lo, cells);
+    repack(t, &mut work, log, &pages[a..e], i, starts, last, cells);
     store(pages, i, &work);
     1
 }
 
-// Mends the pages from lo up to hi and says how many it rewrote.
-fn mend_group(
-    t: &[u32; 2048],
-    log: &[u8],
-    pages: &mut [u8],
-    starts: &[u32; 4097],
-    lasts: &[u32; 4096],
-    n: usize,
-    lo: usize,
-    hi: usize,
-    cells: &[u32; 163840],
-) -> u64
-    requires { ⌜ Tables (now t) ⌝ }
-    requires { ⌜ Ordered (now log) ⌝ }
-    requires { ⌜ Starts (entries (now log)) n (now starts) ⌝ }
-    requires { ⌜ Cells (entries (now log)) lo hi (Decided (now log)) (now cells) ⌝ }
-    requires { ⌜ Lasts (now log) (endOf (now log)) n (now lasts) ⌝ }
-    requires { ⌜ Touched (now log) (now pages) lo hi ⌝ }
-    requires { ⌜ Fitting (now log) (now pages) lo hi ⌝ }
-    requires { ⌜ (length (now pages) ≡ n * pageBytes) × (n ≤ 4096) × (lo < hi) × (hi ≤ n) × (startOf (entries (now log)) hi - startOf (entries (now log)) lo ≤ 163840) ⌝ }
-    ensures { λ _. ⌜ now (pages .exit) ≡ take (lo * pageBytes) (now (pages .entry)) ++ (mendedFrom (entries (now (log .entry))) (now (pages .entry)) (hi - lo) lo ++ drop (hi * pageBytes) (now (pages .entry))) ⌝ }
-    ensures { λ r. ⌜ r ≡ touchedFrom (entries (now (log .entry))) (hi - lo) lo ⌝ }
-{
-    let mut i = lo;
-    let mut rewritten: u64 = 0;
-    while i < hi {
-        rewritten = rewritten + mend_page(t, log, pages, starts, lasts, lo, i, cells);
-        i += 1;
-    }
-    rewritten
-}
-
-// Mends all n pages, group by group, and says how many it rewrote.
+// Mends all n pages and says how many it rewrote.
 pub fn mend_all(
     t: &[u32; 2048],
     log: &[u8],
-    end: usize,
     pages: &mut [u8],
     n: usize,
     starts: &[u32; 4097],
     lasts: &[u32; 4096],
-    cells: &mut [u32; 163840],
-    memo: &mut [u32; 16384],
+    lists: &[u32; 4097],
+    fronts: &[u32; 4096],
+    space: &[u8; 655360],
 ) -> u64
     requires { ⌜ Tables (now t) ⌝ }
     requires { ⌜ Ordered (now log) ⌝ }
-    requires { ⌜ Memo (now log) (now memo) ⌝ }
     requires { ⌜ Starts (entries (now log)) n (now starts) ⌝ }
-    requires { ⌜ Lasts (now log) end n (now lasts) ⌝ }
+    requires { ⌜ Lasts (now log) (endOf (now log)) n (now lasts) ⌝ }
+    requires { ⌜ Lists (entries (now log)) n (now lists) ⌝ }
+    requires { ⌜ Listed (now log) n (now fronts) (now space) ⌝ }
     requires { ⌜ Touched (now log) (now pages) 0 n ⌝ }
     requires { ⌜ Fitting (now log) (now pages) 0 n ⌝ }
-    requires { ⌜ (endOf (now log) ≡ end) × (length (now log) ≤ 16777216) × (length (now pages) ≡ n * pageBytes) × (n ≤ 4096) ⌝ }
+    requires { ⌜ (n ≤ 4096) × (length (now log) ≤ 16777216) × (length (now pages) ≡ n * pageBytes) ⌝ }
     ensures { λ _. ⌜ now (pages .exit) ≡ mendedFrom (entries (now (log .entry))) (now (pages .entry)) n 0 ⌝ }
     ensures { λ r. ⌜ r ≡ touchedFrom (entries (now (log .entry))) n 0 ⌝ }
 {
-    let mut lo: usize = 0;
+    let mut cells = [0u32; 4080];
+    let mut i: usize = 0;
     let mut rewritten: u64 = 0;
-    while lo < n {
-        let hi = group_end(starts, lo, n);
-        decide(log, end, starts, n, lo, hi, cells, memo);
-        rewritten = rewritten + mend_group(t, log, pages, starts, lasts, n, lo, hi, cells);
-        lo = hi;
+    while i < n {
+        rewritten = rewritten
+            + mend_page(
+                t,
+                log,
+                pages,
+                n,
+                starts,
+                lasts,
+                lists,
+                fronts,
+                space,
+                i,
+                &mut cells,
+            );
+        i += 1;
     }
     rewritten
 }

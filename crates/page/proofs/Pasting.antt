@@ -6,7 +6,7 @@ use native.Mathlib.Decide.{decLe}
 use native.Mathlib.Omega.{arith}
 use mathlib.Core.List.{List, [], _∷_, _++_, append-assoc, append-nil}
 use lib.ListN.{length, take, drop, set, length-append, length-take, length-drop, drop-of-length-le}
-use lib.Seq.{paste, sets-eq, take-length, take-all, drop-drop, take-add, drop-at, length-take-le}
+use lib.Seq.{paste, take-length, take-all, drop-drop, take-add, drop-at, length-take-le}
 use Rattle.endian.specs.Numbers.{bytesOf}
 use Rattle.endian.proofs.Numbers.{length-bytesOf}
 use Rattle.endian.proofs.Places.{paste-two, part-same, part-before, part-behind}
@@ -14,12 +14,6 @@ use Rattle.crc32c.specs.Crc.{crc32c}
 use Rattle.page.specs.Layout.{headBytes, pageBytes, pageAt, bodyOf}
 use Rattle.page.specs.Packed.{Head, offOf}
 use Rattle.page.specs.Writer.{withSlot, frontOf, backOf, sealed}
-
-pub set-byte : (d : List ℕ) (at v : ℕ) → at < length d → v < 256 → set d at v ≡ paste d at (bytesOf 1 v) 1
-unfolding bytesOf
-set-byte d at v h b =
-    let e : v % 256 ≡ v = omega arith in
-    rw e (sets-eq (v ∷ []) d at (omega arith))
 
 -- a store behind the first h elements, seen from there
 pub paste-behind : (w s : List ℕ) (h at n : ℕ) → h ≤ length w → drop h (paste w (h + at) s n) ≡ paste (drop h w) at s n

@@ -1,6 +1,6 @@
 use native.Mathlib.Omega.{arith}
 use borrow.Author.Needs.{needs}
-use Rattle.page.proofs.Pasting.{set-byte}
+use Rattle.endian.proofs.Places.{set-byte}
 use Rattle.page.proofs.writer.put_u8.Statement.{statement}
 use Rattle.page.proofs.writer.put_u8.Tie as tie
 
