@@ -14,6 +14,7 @@ ghost use Rattle.page.specs.Layout.{pageBytes, pagesIn};
 ghost use Rattle.page.specs.Fault.{verdict, accepted};
 ghost use Rattle.rules.specs.Shape.{isShaped};
 ghost use Rattle.rules.specs.Recover.{pagesFrom, isStray, strayFrom};
+ghost use Rattle.cells.specs.Listing.{Lists};
 ghost use Rattle.cells.specs.Measure.{Sound};
 ghost use Rattle.order.specs.First.{fullOf};
 ghost use Rattle.order.specs.Hints.{Hints};
@@ -48,13 +49,15 @@ pub fn judge_log(
     records: u64,
     starts: &mut [u32; 4097],
     lasts: &mut [u32; 4096],
-    cells: &mut [u32; 163840],
+    lists: &mut [u32; 4097],
+    space: &mut [u8; 655360],
     hints: &mut [u32; 16384],
 ) -> Walked
     requires { ⌜ Tables (now t) ⌝ }
     requires { ⌜ n ≤ 4096 ⌝ }
     requires { ⌜ Hints (now log) first (now hints) ⌝ }
     ensures { λ r. ⌜ Judged (fullOf bounded records) (now (log .entry)) n (now (starts .exit)) (now (lasts .exit)) r ⌝ }
+    ensures { λ r. ⌜ (r .number ≡ 0 → Lists (entries (now (log .entry))) n (now (lists .exit))) ⌝ }
 {
     let number = header_fault(log);
     if number != 0 {
@@ -65,8 +68,8 @@ pub fn judge_log(
         };
     }
     let w = walk(t, log, bounded, records, hints);
-    let beyond = measure(log, w.place, n, starts, lasts);
-    let at = clash(log, w.place, n, beyond, starts, cells);
+    let beyond = measure(log, w.place, n, starts, lasts, lists);
+    let at = clash(log, w.place, n, beyond, starts, space);
     if at < w.place {
         return Walked {
             number: CLASH,

@@ -13,7 +13,9 @@ use Rattle.order.specs.First.{told}
 use Rattle.order.specs.declared.Walked.{Walked}
 use Rattle.tally.specs.declared.Tally.{Tally}
 use Rattle.cells.specs.Cell.{Starts}
+use Rattle.cells.specs.Listing.{Lists}
 use Rattle.cells.specs.Measure.{Lasts}
+use Rattle.decide.specs.Lists.{Listed}
 
 -- the verdict; accepted, where the log ends and its last LSN, where the cells of pages start, and the places of the last changes on them
 pub record Judgement (full : ℕ → Bool) (magic floor : ℕ) (pages log starts lasts : List ℕ) (w : Walked) : Type 0 where
@@ -22,6 +24,11 @@ pub record Judgement (full : ℕ → Bool) (magic floor : ℕ) (pages log starts
   pub last : w .number ≡ 0 → w .last .0 ≡ lastLsn (entries log)
   pub begin : w .number ≡ 0 → Starts (entries log) (pagesIn pages) starts
   pub touched : w .number ≡ 0 → Lasts log (endOf log) (pagesIn pages) lasts
+
+-- accepted, the changes on each page are listed
+pub record Gathered (pages log lists fronts space : List ℕ) (w : Walked) : Type 0 where
+  pub lists : w .number ≡ 0 → Lists (entries log) (pagesIn pages) lists
+  pub listed : w .number ≡ 0 → Listed log (pagesIn pages) fronts space
 
 -- the answer of a recovery that is done: last LSN, end of the log, counts, pages rewritten
 abbrev pub answerFrom : Lsn → ℕ → Tally → ℕ → Answer

@@ -67,7 +67,9 @@ fn run(
     records: u64,
     starts: &mut [u32; 4097],
     lasts: &mut [u32; 4096],
-    cells: &mut [u32; 163840],
+    lists: &mut [u32; 4097],
+    fronts: &mut [u32; 4096],
+    space: &mut [u8; 655360],
     memo: &mut [u32; 16384],
 ) -> Answer
     requires { ⌜ Tables (now t) ⌝ }
@@ -85,7 +87,9 @@ fn run(
         records,
         starts,
         lasts,
-        cells,
+        lists,
+        fronts,
+        space,
         memo,
     );
     if w.number != 0 {
@@ -93,7 +97,7 @@ fn run(
     }
     let c = tally(log, w.place, memo);
     let n = pages.len() / PAGE_BYTES;
-    let rewritten = mend_all(t, log, w.place, pages, n, starts, lasts, cells, memo);
+    let rewritten = mend_all(t, log, pages, n, starts, lasts, lists, fronts, space);
     done_by(w.last, w.place, c, rewritten)
 }
 
@@ -105,7 +109,9 @@ pub fn recover(magic: u64, floor: Lsn, pages: &mut [u8], log: &[u8], records: u6
     let t = tables();
     let mut starts = [0u32; 4097];
     let mut lasts = [0u32; 4096];
-    let mut cells = [0u32; 163840];
+    let mut lists = [0u32; 4097];
+    let mut fronts = [0u32; 4096];
+    let mut space = [0u8; 655360];
     let mut memo = [0u32; 16384];
     run(
         &t,
@@ -116,7 +122,9 @@ pub fn recover(magic: u64, floor: Lsn, pages: &mut [u8], log: &[u8], records: u6
         records,
         &mut starts,
         &mut lasts,
-        &mut cells,
+        &mut lists,
+        &mut fronts,
+        &mut space,
         &mut memo,
     )
 }

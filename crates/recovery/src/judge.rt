@@ -3,10 +3,11 @@ ghost use mathlib.Core.Path.{_≡_};
 ghost use Rattle.crc32c.specs.Tables.{Tables};
 ghost use Rattle.order.specs.First.{fullOf};
 ghost use Rattle.fates.specs.Fate.{Memo};
-ghost use Rattle.recovery.specs.Judgement.{Judgement};
+ghost use Rattle.recovery.specs.Judgement.{Judgement, Gathered};
 use checks::inner::judge_log;
 use checks::inner::judge_pages;
 use checks::inner::stray;
+use decide::inner::gather;
 use endian::Lsn;
 use order::Walked;
 use page::PAGE_BYTES;
@@ -37,12 +38,15 @@ pub fn judge(
     records: u64,
     starts: &mut [u32; 4097],
     lasts: &mut [u32; 4096],
-    cells: &mut [u32; 163840],
+    lists: &mut [u32; 4097],
+    fronts: &mut [u32; 4096],
+    space: &mut [u8; 655360],
     memo: &mut [u32; 16384],
 ) -> Walked
     requires { ⌜ Tables (now t) ⌝ }
     requires { ⌜ Memo (now log) (now memo) ⌝ }
     ensures { λ r. ⌜ Judgement (fullOf bounded records) magic (floor .0) (now (pages .entry)) (now (log .entry)) (now (starts .exit)) (now (lasts .exit)) r ⌝ }
+    ensures { λ r. ⌜ Gathered (now (pages .entry)) (now (log .entry)) (now (lists .exit)) (now (fronts .exit)) (now (space .exit)) r ⌝ }
     ensures { λ _. ⌜ Memo (now (log .entry)) (now (memo .exit)) ⌝ }
 {
     // made before any test: docs/DECISIONS.md says why
@@ -59,7 +63,8 @@ pub fn judge(
         records,
         starts,
         lasts,
-        cells,
+        lists,
+        space,
         &mut hints,
     );
     if w.number != 0 {
@@ -73,7 +78,8 @@ pub fn judge(
     if at < w.place {
         return refusal(NO_DATA_PAGE, at);
     }
-    let i = tight(log, w.place, pages, n, starts, cells, memo);
+    gather(log, w.place, n, lists, fronts, space, memo);
+    let i = tight(log, pages, n, starts, lists, fronts, space);
     if i < n {
         return refusal(PAGE_OVERFULL, i);
     }
