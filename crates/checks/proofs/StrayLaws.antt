@@ -1,25 +1,35 @@
 -- The walk for changes to pages that cannot take them, turn by turn. Assumes nothing.
-use Prim.Native.Nat.{ℕ, _+_, _*_, _≤_, _<_}
-use mathlib.Core.Path.{_≡_, sym, ap, _∙_}
-use mathlib.Core.Bool.{true, false, not}
-use mathlib.Core.List.{List}
+use Prim.Native.Nat.{ℕ, suc, _+_, _*_, _≤_, _<_}
+use mathlib.Core.Path.{_≡_, refl, sym, ap, _∙_}
+use mathlib.Core.Bool.{Bool, true, false, not}
+use mathlib.Core.List.{List, [], _∷_}
+use native.Mathlib.Decide.{decLt}
 use native.Mathlib.Omega.{arith}
 use lib.ListN.{getD}
-use lib.Dec.{ltb, eqb}
-use borrow.Author.Tests.{lt-ltb, le-ltb, le-leb, lt-leb}
+use lib.Dec.{ltb, leb, eqb}
+use borrow.Author.Tests.{lt-ltb, le-ltb, le-leb, lt-leb, eqb-true}
 use Rattle.endian.specs.Pick.{pick}
-use Rattle.wal.specs.Entry.{Entry}
-use Rattle.wal.specs.Read.{lengthAt, view}
+use Rattle.wal.specs.Entry.{Entry, sizeOf}
+use Rattle.wal.specs.Read.{first, lengthAt, view}
 use Rattle.wal.specs.Walk.{entries, endOf}
 use Rattle.wal.specs.Prefix.{Stands, said, onward}
 use Rattle.wal.proofs.Places.{size-of}
-use Rattle.wal.proofs.Prefix.{stands-at, onward-first, onward-next, onward-end}
+use Rattle.wal.proofs.Prefix.{stands-at, before-end, onward-first, onward-next, onward-end}
 use Rattle.page.specs.Layout.{pageBytes, dataType, pagesIn}
 use Rattle.page.specs.Fault.{verdict, accepted}
 use Rattle.page.specs.declared.Verdict.{Verdict}
 use Rattle.page.proofs.Reading.{type-at}
-use Rattle.rules.specs.Shape.{isChange, pageOf}
+use Rattle.rules.specs.Shape.{both, isChange, isOn, pageOf, slotOf, topOn}
+use Rattle.rules.specs.Order.{any}
+use Rattle.rules.specs.Mend.{topOf}
 use Rattle.rules.specs.Recover.{isStray, strayFrom}
+use Rattle.rules.proofs.OrderLaws.{Every}
+use Rattle.rules.proofs.Tests.{either-false, false-true}
+use Rattle.rules.proofs.Verdicts.{Lent, all-lent}
+use Rattle.cells.specs.Cell.{Starts}
+use Rattle.cells.specs.Measure.{isBeyond, FirstBeyond}
+use Rattle.cells.proofs.CellLaws.{start-next}
+use Rattle.checks.specs.Judged.{OfData}
 
 -- ---- one entry
 module _ (pages : List ℕ) (e : Entry) where
@@ -62,3 +72,45 @@ stray-found at end h e = e ∙ sym (rw (lt-ltb at end h))
 
 pub stray-none : {v : Verdict} (end : ℕ) → v ≡ accepted → v ≡ pick (ltb end end) (verdict 13 end) accepted
 stray-none end e = e ∙ sym (rw (le-ltb end end (omega arith)))
+
+-- ---- where no change is refused
+
+-- a page that no change is on is untouched
+untouched : (n i : ℕ) (es : List Entry) → any (isBeyond n) es ≡ false → n ≤ i → topOf i es ≡ 0
+unfolding topOf
+untouched n i [] h l = refl
+untouched n i (e ∷ es) h l =
+    let o = either-false (isBeyond n e) (any (isBeyond n) es) h in
+    omega (arith, off (o .0), untouched n i es (o .1) l)
+  where
+    off : isBeyond n e ≡ false → topOn i e ≡ 0
+    unfolding isBeyond topOn isOn
+    off q = go (isChange e) refl (eqb (pageOf e) i) refl
+      where
+        go : (a : Bool) → isChange e ≡ a → (b : Bool) → eqb (pageOf e) i ≡ b → pick (both a b) (suc (slotOf e)) 0 ≡ 0
+        go true c true d =
+            let z : pageOf e ≡ i = eqb-true _ _ d in
+            let t : both (isChange e) (leb n (pageOf e)) ≡ true = rw (c, le-leb n (pageOf e) (omega arith)) in
+            absurd (false-true (sym q ∙ t))
+        go true c false d = refl
+        go false c b d = refl
+
+none-at : (pages : List ℕ) (es : List Entry) (at : ℕ) → Every (λ e. isStray pages e ≡ false) es → strayFrom pages es at ≡ accepted
+unfolding strayFrom
+none-at pages [] at h = refl
+none-at pages (e ∷ es) at h = rw (h .0) (none-at pages es (at + sizeOf e) (h .1))
+
+pub stray-nowhere : (pages s : List ℕ) (n end r : ℕ) (starts : List ℕ) → n ≡ pagesIn pages → endOf s ≡ end → FirstBeyond s end n r → r ≡ end → Starts (entries s) n starts → OfData pages n starts
+    → strayFrom pages (entries s) first ≡ accepted
+stray-nowhere pages s n end r starts lent ends f at-end t d =
+    none-at pages (entries s) first (all-lent pages (entries s) all)
+  where
+    none : any (isBeyond n) (entries s) ≡ false
+    none = rw (at-end, ← ends, before-end s) at (f .none)
+
+    all : (i : ℕ) → 0 < topOf i (entries s) → Lent pages i
+    all i h =
+        elim (decLt i n) [
+          | yes l ↦ record { lent = omega arith; isData = type-at pages i ∙ d .at i l (λ e. omega (arith, t .at i (omega arith), t .at (i + 1) (omega arith), start-next (entries s) i)) }
+          | no l ↦ absurd (omega (arith, untouched n i (entries s) none (omega arith)))
+        ]

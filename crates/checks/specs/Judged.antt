@@ -1,13 +1,14 @@
 -- What the walks over a log find before recovery.
-use Prim.Native.Nat.{ℕ, zero, suc}
+use Prim.Native.Nat.{ℕ, zero, suc, _+_, _*_, _<_}
 use mathlib.Core.Path.{_≡_}
 use mathlib.Core.Bool.{Bool}
 use mathlib.Core.List.{List}
+use lib.ListN.{getD}
 use lib.Dec.{ltb}
 use Rattle.refusals.specs.Refusal.{pageNotGood, pageLsn}
 use Rattle.endian.specs.Pick.{pick}
 use Rattle.wal.specs.Walk.{entries, endOf}
-use Rattle.page.specs.Layout.{pageAt, lsnOf}
+use Rattle.page.specs.Layout.{pageBytes, dataType, pageAt, lsnOf}
 use Rattle.page.specs.Fault.{accepted, faultOf}
 use Rattle.page.specs.declared.Fault.{Fault}
 use Rattle.page.specs.declared.Fault.the-variants.{Sound, MagicOrType, Id, Checksum, Count, FreeStart, FreeEnd, Slot}
@@ -25,6 +26,10 @@ pub record Judged (full : ℕ → Bool) (s : List ℕ) (n : ℕ) (starts lasts :
   pub last : w .number ≡ zero → w .last .0 ≡ lastLsn (entries s)
   pub begin : w .number ≡ zero → Starts (entries s) n starts
   pub touched : w .number ≡ zero → Lasts s (endOf s) n lasts
+
+-- each touched one of the first n pages is of type 1; the cells of a touched page end behind their start
+pub record OfData (pages : List ℕ) (n : ℕ) (starts : List ℕ) : Type 0 where
+  pub at : (i : ℕ) → i < n → (getD starts i 0 ≡ getD starts (i + 1) 0 → ⊥) → getD pages (i * pageBytes + 8) 0 ≡ dataType
 
 -- refusal 11 by a fault, or what comes after it
 abbrev pub elevenOr : Fault → ℕ → ℕ

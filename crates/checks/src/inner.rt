@@ -14,11 +14,13 @@ ghost use Rattle.page.specs.Layout.{pageBytes, pagesIn};
 ghost use Rattle.page.specs.Fault.{verdict, accepted};
 ghost use Rattle.rules.specs.Shape.{isShaped};
 ghost use Rattle.rules.specs.Recover.{pagesFrom, isStray, strayFrom};
+ghost use Rattle.cells.specs.Cell.{Starts};
 ghost use Rattle.cells.specs.Listing.{Lists};
-ghost use Rattle.cells.specs.Measure.{Sound};
+ghost use Rattle.cells.specs.Measure.{Sound, FirstBeyond};
 ghost use Rattle.order.specs.First.{fullOf};
 ghost use Rattle.order.specs.Hints.{Hints};
-ghost use Rattle.checks.specs.Judged.{Judged, pageNumber, pagesBy};
+ghost use Rattle.checks.specs.Judged.{Judged, OfData, pageNumber, pagesBy};
+use crate::Found;
 use cells::inner::measure;
 use cells::inner::page_at;
 use clash::inner::clash;
@@ -40,6 +42,20 @@ use wal::FIRST;
 use wal::header_fault;
 use wal::inner::standing;
 
+fn refused_at(number: u64, place: usize) -> Found
+    ensures { λ r. ⌜ r .walked ≡ record { number = number; place = place; last = record { 0 = 0 } } ⌝ }
+{
+    let w = Walked {
+        number: number,
+        place: place,
+        last: Lsn(0),
+    };
+    Found {
+        walked: w,
+        beyond: 0,
+    }
+}
+
 // Refusals 2 to 10 of a log, over n pages.
 pub fn judge_log(
     t: &[u32; 2048],
@@ -52,32 +68,28 @@ pub fn judge_log(
     lists: &mut [u32; 4097],
     space: &mut [u8; 655360],
     hints: &mut [u32; 16384],
-) -> Walked
+) -> Found
     requires { ⌜ Tables (now t) ⌝ }
     requires { ⌜ n ≤ 4096 ⌝ }
     requires { ⌜ Hints (now log) first (now hints) ⌝ }
-    ensures { λ r. ⌜ Judged (fullOf bounded records) (now (log .entry)) n (now (starts .exit)) (now (lasts .exit)) r ⌝ }
-    ensures { λ r. ⌜ (r .number ≡ 0 → Lists (entries (now (log .entry))) n (now (lists .exit))) ⌝ }
+    ensures { λ r. ⌜ Judged (fullOf bounded records) (now (log .entry)) n (now (starts .exit)) (now (lasts .exit)) (r .walked) ⌝ }
+    ensures { λ r. ⌜ (r .walked .number ≡ 0 → Lists (entries (now (log .entry))) n (now (lists .exit))) ⌝ }
+    ensures { λ r. ⌜ (r .walked .number ≡ 0 → FirstBeyond (now (log .entry)) (endOf (now (log .entry))) n (r .beyond)) ⌝ }
 {
     let number = header_fault(log);
     if number != 0 {
-        return Walked {
-            number: number,
-            place: 0,
-            last: Lsn(0),
-        };
+        return refused_at(number, 0);
     }
     let w = walk(t, log, bounded, records, hints);
     let beyond = measure(log, w.place, n, starts, lasts, lists);
     let at = clash(log, w.place, n, beyond, starts, space);
     if at < w.place {
-        return Walked {
-            number: CLASH,
-            place: at,
-            last: Lsn(0),
-        };
+        return refused_at(CLASH, at);
     }
-    w
+    Found {
+        walked: w,
+        beyond: beyond,
+    }
 }
 
 // Refusal 11 or 12 of the page at an index, or 0; `known` is the larger of the floor and the last LSN.
@@ -157,8 +169,8 @@ fn is_stray(log: &[u8], at: usize, kind: u8, pages: &[u8], n: usize) -> bool
     kind != DATA_TYPE
 }
 
-// Refusal 13: the place of the first such entry, or end.
-pub fn stray(log: &[u8], end: usize, pages: &[u8], n: usize) -> usize
+// The place of the first such entry, or end.
+fn first_stray(log: &[u8], end: usize, pages: &[u8], n: usize) -> usize
     requires { ⌜ (endOf (now log) ≡ end) × (n ≡ pagesIn (now pages)) ⌝ }
     requires { ⌜ Sound (now log) end ⌝ }
     ensures { λ r. ⌜ strayFrom (now (pages .entry)) (entries (now (log .entry))) first ≡ pick (ltb r end) (verdict noDataPage r) accepted ⌝ }
@@ -172,4 +184,46 @@ pub fn stray(log: &[u8], end: usize, pages: &[u8], n: usize) -> usize
         at = at + v.length;
     }
     end
+}
+
+// Whether each touched one of the n pages is of type 1.
+fn of_data(pages: &[u8], n: usize, starts: &[u32; 4097]) -> bool
+    requires { ⌜ (n ≡ pagesIn (now pages)) × (n ≤ 4096) ⌝ }
+    ensures { λ r. ⌜ (r ≡ true → OfData (now (pages .entry)) n (now (starts .entry))) ⌝ }
+{
+    let mut i: usize = 0;
+    while i < n {
+        if starts[i] != starts[i + 1] {
+            let kind = pages[i * PAGE_BYTES + 8];
+            if kind != DATA_TYPE {
+                return false;
+            }
+        }
+        i += 1;
+    }
+    true
+}
+
+// Refusal 13: the place of the first change to a page that cannot take it, or end. The log is walked only where there is one; beyond is the place of the first
+// change beyond the n pages.
+pub fn stray(
+    log: &[u8],
+    end: usize,
+    pages: &[u8],
+    n: usize,
+    starts: &[u32; 4097],
+    beyond: usize,
+) -> usize
+    requires { ⌜ (endOf (now log) ≡ end) × (n ≡ pagesIn (now pages)) × (n ≤ 4096) ⌝ }
+    requires { ⌜ Sound (now log) end ⌝ }
+    requires { ⌜ Starts (entries (now log)) n (now starts) ⌝ }
+    requires { ⌜ FirstBeyond (now log) end n beyond ⌝ }
+    ensures { λ r. ⌜ strayFrom (now (pages .entry)) (entries (now (log .entry))) first ≡ pick (ltb r end) (verdict noDataPage r) accepted ⌝ }
+{
+    if beyond == end {
+        if of_data(pages, n, starts) {
+            return end;
+        }
+    }
+    first_stray(log, end, pages, n)
 }

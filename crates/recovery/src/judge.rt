@@ -55,7 +55,7 @@ pub fn judge(
         return refusal(PAGE_AREA, 0);
     }
     let n = pages.len() / PAGE_BYTES;
-    let w = judge_log(
+    let found = judge_log(
         t,
         log,
         n,
@@ -67,6 +67,7 @@ pub fn judge(
         space,
         &mut hints,
     );
+    let w = found.walked;
     if w.number != 0 {
         return w;
     }
@@ -74,7 +75,7 @@ pub fn judge(
     if v.number != 0 {
         return refusal(v.number, v.place as usize);
     }
-    let at = stray(log, w.place, pages, n);
+    let at = stray(log, w.place, pages, n, starts, found.beyond);
     if at < w.place {
         return refusal(NO_DATA_PAGE, at);
     }

@@ -7,8 +7,8 @@ use Rattle.rules.specs.Recover.{strayFrom}
 use Rattle.fates.proofs.Turns.{Step, step, still, arrived}
 use Rattle.checks.proofs.StrayLaws.{stray-first, stray-here, stray-next, stray-end, stray-found, stray-none}
 use native.Mathlib.Omega.{arith}
-use Rattle.checks.proofs.inner.stray.Statement.{statement}
-use Rattle.checks.proofs.inner.stray.Tie as tie
+use Rattle.checks.proofs.inner.first_stray.Statement.{statement}
+use Rattle.checks.proofs.inner.first_stray.Tie as tie
 
 abbrev Inv-loop : tie.InvT-loop
 Inv-loop log end pages n at₀ at = Met log at × (strayFrom pages (entries log) 32 ≡ strayFrom pages (onward log at) at)
@@ -56,7 +56,7 @@ returns-2 c =
     let l = c .before .loop in
     stray-none (c .before .before .before .before .args .end) (l .inv .1 ∙ stray-end _ _ _ (arrived (l .inv .0) (c .before .before .before .before .pre .0 .0) (omega arith)))
 
-pub stray-spec : {M : Type 1} → statement M
-stray-spec =
+pub first-stray-spec : {M : Type 1} → statement M
+first-stray-spec =
     tie.close
     (tie.spec Inv-loop μ-loop loop-holds standing-requires is-stray-requires returns add-at loop-less loop-again returns-2)
