@@ -1,39 +1,57 @@
--- Where the page and the slot of a change stand in the log. Assumes nothing.
+-- Where the page and the slot of a change stand in the log, and how long it is at least. Assumes nothing.
 use Prim.Native.Nat.{ℕ, _+_, _≤_}
 use native.Mathlib.Omega.{arith}
 use mathlib.Core.Path.{_≡_, sym, ap, _∙_}
 use mathlib.Core.Bool.{Bool, true, false}
 use mathlib.Core.List.{List}
-use lib.ListN.{length, drop, length-drop}
+use lib.ListN.{length, take, drop, length-drop}
 use lib.Seq.{length-take-le}
-use lib.Dec.{eqb}
-use borrow.Author.Tests.{eqb-true}
+use lib.Dec.{leb, eqb}
+use borrow.Author.Tests.{leb-true, eqb-true}
 use Rattle.endian.specs.Pick.{pick}
 use Rattle.endian.specs.Numbers.{part, numberAt}
 use Rattle.endian.proofs.Places.{number-take, number-drop}
 use Rattle.wal.specs.Entry.{Entry, insert, delete, update, checkpoint, entryOf}
-use Rattle.wal.specs.Read.{keyLen, view}
+use Rattle.wal.specs.Read.{lengthAt, keyLen, view}
 use Rattle.wal.specs.Prefix.{said, Stands}
 use Rattle.wal.proofs.WalkLaws.{inner-lengths}
 use Rattle.wal.proofs.Prefix.{stands-at}
-use Rattle.rules.specs.Shape.{both, either, isChange, isChanging, isImage, isNone, isKey, isKeyed, isBare, isShaped, pageOf, slotOf}
+use Rattle.wal.proofs.Places.{size-of}
+use Rattle.rules.specs.Shape.{both, either, isChange, isChanging, isImage, isNone, same, isKey, isKeyed, isBare, isShaped, pageOf, slotOf}
 use Rattle.rules.proofs.Tests.{both-true, false-true}
 
--- a change of right shape has a key of ten bytes
-key-ten : (e : Entry) → isChange e ≡ true → isShaped e ≡ true → length (e .key) ≡ 10
-unfolding isChanging isShaped
-key-ten e = go (eqb (e .kind) insert) (eqb (e .kind) delete) (eqb (e .kind) update)
+-- an image has 24 bytes or more
+image-long : (t : List ℕ) → isImage t ≡ true → 24 ≤ length t
+unfolding isImage
+image-long t h = leb-true _ _ (both-true (leb 24 (length t)) _ h .0)
+
+-- a change of right shape has a key of ten bytes, and an image
+change-parts : (e : Entry) → isChange e ≡ true → isShaped e ≡ true → (length (e .key) ≡ 10) × (24 ≤ length (e .old) + length (e .new))
+unfolding isChanging isShaped isKeyed
+change-parts e = go (eqb (e .kind) insert) (eqb (e .kind) delete) (eqb (e .kind) update)
   where
     go : (a b c : Bool) → either a (either b c) ≡ true
         → pick a (both (isKey (e .key)) (both (isNone (e .old)) (isImage (e .new))))
         (pick b (both (isKey (e .key)) (both (isImage (e .old)) (isNone (e .new))))
         (pick c (both (isKey (e .key)) (both (isKeyed (e .key) (e .old)) (isKeyed (e .key) (e .new))))
         (pick (eqb (e .kind) checkpoint) (both (isBare e) (eqb (e .txn) 0)) (isBare e)))) ≡ true
-        → length (e .key) ≡ 10
-    go true b c h s = eqb-true _ _ (both-true (isKey (e .key)) _ s .0)
-    go false true c h s = eqb-true _ _ (both-true (isKey (e .key)) _ s .0)
-    go false false true h s = eqb-true _ _ (both-true (isKey (e .key)) _ s .0)
+        → (length (e .key) ≡ 10) × (24 ≤ length (e .old) + length (e .new))
+    go true b c h s =
+        let k = both-true (isKey (e .key)) _ s in
+        (eqb-true _ _ (k .0), omega (arith, image-long (e .new) (both-true (isNone (e .old)) _ (k .1) .1)))
+    go false true c h s =
+        let k = both-true (isKey (e .key)) _ s in
+        (eqb-true _ _ (k .0), omega (arith, image-long (e .old) (both-true (isImage (e .old)) _ (k .1) .0)))
+    go false false true h s =
+        let k = both-true (isKey (e .key)) _ s in
+        let o = both-true (isKeyed (e .key) (e .old)) (isKeyed (e .key) (e .new)) (k .1) .0 in
+        let i = image-long (drop 10 (e .old)) (both-true (same (take 10 (e .old)) (e .key)) _ o .1) in
+        (eqb-true _ _ (k .0), omega (arith, length-drop 10 (e .old), i))
     go false false false h s = false-true h
+
+-- so it has 77 bytes or more
+pub change-long : {s : List ℕ} {p : ℕ} → Stands s p → isChange (said s p) ≡ true → isShaped (said s p) ≡ true → 77 ≤ lengthAt s p
+change-long {s} {p} h change shaped = let k = stands-at h in let q = change-parts (said s p) change shaped in omega (arith, size-of k, k .front, q .0, q .1)
 
 -- the page and the slot of the change at p
 pub record KeyAt (s : List ℕ) (p : ℕ) : Type 0 where
@@ -46,7 +64,7 @@ unfolding entryOf view
 key-at {s} {p} h change shaped =
     let k = stands-at h in
     let i = inner-lengths k in
-    let ten = key-ten (said s p) change shaped in
+    let ten = change-parts (said s p) change shaped .0 in
     let long : length (part (p + 27) (keyLen s p) s) ≡ keyLen s p = length-take-le (keyLen s p) (drop (p + 27) s) (simp length-drop (omega (arith, k .room, k .inner))) in
     let n : keyLen s p ≡ 10 = sym long ∙ ten in
     let key : said s p .key ≡ part (p + 27) 10 s = ap (λ (m : ℕ). part (p + 27) m s) n in

@@ -1,6 +1,7 @@
 pub mod Blank
 pub mod CellLaws
 pub mod Keys
+pub mod Listing
 pub mod Sums
 pub mod Pages
 pub mod Turns
