@@ -4,6 +4,7 @@ use mathlib.Core.Path.{_≡_, refl, sym, ap, _∙_}
 use mathlib.Core.Bool.{Bool, true, false, not}
 use mathlib.Core.List.{List, [], _∷_}
 use native.Mathlib.Decide.{decLt}
+use native.Mathlib.Numerals.{add-one}
 use native.Mathlib.Omega.{arith}
 use lib.ListN.{getD}
 use lib.Dec.{ltb, leb, eqb}
@@ -26,7 +27,7 @@ use Rattle.rules.specs.Recover.{isStray, strayFrom}
 use Rattle.rules.proofs.OrderLaws.{Every}
 use Rattle.rules.proofs.Tests.{either-false, false-true}
 use Rattle.rules.proofs.Verdicts.{Lent, all-lent}
-use Rattle.cells.specs.Cell.{Starts}
+use Rattle.cells.specs.Cell.{startOf, Starts}
 use Rattle.cells.specs.Measure.{isBeyond, FirstBeyond}
 use Rattle.cells.proofs.CellLaws.{start-next}
 use Rattle.checks.specs.Judged.{OfData}
@@ -75,25 +76,25 @@ stray-none end e = e ∙ sym (rw (le-ltb end end (omega arith)))
 
 -- ---- where no change is refused
 
--- a page that no change is on is untouched
+-- an entry that does not change page n or a later one
+off-page : (n i : ℕ) (e : Entry) → isBeyond n e ≡ false → n ≤ i → topOn i e ≡ 0
+unfolding isBeyond topOn isOn
+off-page n i e h l = go (isChange e) refl (eqb (pageOf e) i) refl
+  where
+    go : (a : Bool) → isChange e ≡ a → (b : Bool) → eqb (pageOf e) i ≡ b → pick (both a b) (suc (slotOf e)) 0 ≡ 0
+    go true c true d =
+        let z : pageOf e ≡ i = eqb-true _ _ d in
+        let t : both (isChange e) (leb n (pageOf e)) ≡ true = rw (c, le-leb n (pageOf e) (omega arith)) in
+        false-true (sym h ∙ t)
+    go true c false d = refl
+    go false c b d = refl
+
 untouched : (n i : ℕ) (es : List Entry) → any (isBeyond n) es ≡ false → n ≤ i → topOf i es ≡ 0
 unfolding topOf
 untouched n i [] h l = refl
 untouched n i (e ∷ es) h l =
     let o = either-false (isBeyond n e) (any (isBeyond n) es) h in
-    omega (arith, off (o .0), untouched n i es (o .1) l)
-  where
-    off : isBeyond n e ≡ false → topOn i e ≡ 0
-    unfolding isBeyond topOn isOn
-    off q = go (isChange e) refl (eqb (pageOf e) i) refl
-      where
-        go : (a : Bool) → isChange e ≡ a → (b : Bool) → eqb (pageOf e) i ≡ b → pick (both a b) (suc (slotOf e)) 0 ≡ 0
-        go true c true d =
-            let z : pageOf e ≡ i = eqb-true _ _ d in
-            let t : both (isChange e) (leb n (pageOf e)) ≡ true = rw (c, le-leb n (pageOf e) (omega arith)) in
-            absurd (false-true (sym q ∙ t))
-        go true c false d = refl
-        go false c b d = refl
+    omega (arith, off-page n i e (o .0) l, untouched n i es (o .1) l)
 
 none-at : (pages : List ℕ) (es : List Entry) (at : ℕ) → Every (λ e. isStray pages e ≡ false) es → strayFrom pages es at ≡ accepted
 unfolding strayFrom
@@ -110,7 +111,22 @@ stray-nowhere pages s n end r starts lent ends f at-end t d =
 
     all : (i : ℕ) → 0 < topOf i (entries s) → Lent pages i
     all i h =
+        let next : startOf (entries s) (i + 1) ≡ startOf (entries s) i + topOf i (entries s) = rw (add-one i) (start-next (entries s) i) in
         elim (decLt i n) [
-          | yes l ↦ record { lent = omega arith; isData = type-at pages i ∙ d .at i l (λ e. omega (arith, t .at i (omega arith), t .at (i + 1) (omega arith), start-next (entries s) i)) }
+          | yes l ↦ record { lent = omega arith; isData = type-at pages i ∙ d .at i l (λ e. omega (arith, t .at i (omega arith), t .at (i + 1) (omega arith))) }
           | no l ↦ absurd (omega (arith, untouched n i (entries s) none (omega arith)))
         ]
+
+-- ---- page by page
+
+pub data-none : (pages starts : List ℕ) → OfData pages 0 starts
+data-none pages starts = record { at = λ i h. absurd (omega arith) }
+
+pub data-more : {pages starts : List ℕ} {i : ℕ} → ((getD starts i 0 ≡ getD starts (i + 1) 0 → ⊥) → getD pages (i * pageBytes + 8) 0 ≡ dataType) → OfData pages i starts → OfData pages (i + 1) starts
+data-more {pages} {starts} {i} h d =
+    record {
+      at = λ j l k. elim (decLt j i) [
+        | yes m ↦ d .at j m k
+        | no m ↦ let z : j ≡ i = omega arith in rw z (h (rw z at k))
+      ];
+    }

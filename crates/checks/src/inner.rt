@@ -1,8 +1,8 @@
 // The walks over a log, the pass over the pages, and the walk for changes to pages that cannot take them.
 ghost use mathlib.Core.Path.{_≡_};
-ghost use mathlib.Core.Bool.{true};
-ghost use Prim.Native.Nat.{_+_, _≤_, max};
-ghost use lib.ListN.{length};
+ghost use mathlib.Core.Bool.{true, false};
+ghost use Prim.Native.Nat.{_+_, _*_, _≤_, _<_, max};
+ghost use lib.ListN.{length, getD};
 ghost use lib.Dec.{ltb};
 ghost use Rattle.refusals.specs.Refusal.{noDataPage};
 ghost use Rattle.crc32c.specs.Tables.{Tables};
@@ -10,7 +10,7 @@ ghost use Rattle.endian.specs.Pick.{pick};
 ghost use Rattle.wal.specs.Read.{first};
 ghost use Rattle.wal.specs.Walk.{entries, endOf};
 ghost use Rattle.wal.specs.Prefix.{Stands, said};
-ghost use Rattle.page.specs.Layout.{pageBytes, pagesIn};
+ghost use Rattle.page.specs.Layout.{pageBytes, dataType, pagesIn};
 ghost use Rattle.page.specs.Fault.{verdict, accepted};
 ghost use Rattle.rules.specs.Shape.{isShaped};
 ghost use Rattle.rules.specs.Recover.{pagesFrom, isStray, strayFrom};
@@ -186,6 +186,18 @@ fn first_stray(log: &[u8], end: usize, pages: &[u8], n: usize) -> usize
     end
 }
 
+// Whether page i is touched and not of type 1.
+fn is_other(pages: &[u8], starts: &[u32; 4097], i: usize) -> bool
+    requires { ⌜ (i < pagesIn (now pages)) × (i < 4096) ⌝ }
+    ensures { λ r. ⌜ (r ≡ false → (getD (now (starts .entry)) i 0 ≡ getD (now (starts .entry)) (i + 1) 0 → ⊥) → getD (now (pages .entry)) (i * pageBytes + 8) 0 ≡ dataType) ⌝ }
+{
+    if starts[i] == starts[i + 1] {
+        return false;
+    }
+    let kind = pages[i * PAGE_BYTES + 8];
+    kind != DATA_TYPE
+}
+
 // Whether each touched one of the n pages is of type 1.
 fn of_data(pages: &[u8], n: usize, starts: &[u32; 4097]) -> bool
     requires { ⌜ (n ≡ pagesIn (now pages)) × (n ≤ 4096) ⌝ }
@@ -193,11 +205,8 @@ fn of_data(pages: &[u8], n: usize, starts: &[u32; 4097]) -> bool
 {
     let mut i: usize = 0;
     while i < n {
-        if starts[i] != starts[i + 1] {
-            let kind = pages[i * PAGE_BYTES + 8];
-            if kind != DATA_TYPE {
-                return false;
-            }
+        if is_other(pages, starts, i) {
+            return false;
         }
         i += 1;
     }
