@@ -144,10 +144,10 @@ module _ (t : ℕ) (space : List ℕ) where
 
 -- a cell that was stored, and any other
 module _ (space : List ℕ) (c u : ℕ) (room : 2 * c + 2 ≤ length space) where
-  pub cell-stored : cellIn (paste space (2 * c) (bytesOf 2 (kept u)) 2) c ≡ kept u
+  cell-stored : cellIn (paste space (2 * c) (bytesOf 2 (kept u)) 2) c ≡ kept u
   cell-stored = number-stored 2 (2 * c) (kept u) space room (kept-below u)
 
-  pub cell-other : (d : ℕ) → (d ≡ c → ⊥) → cellIn (paste space (2 * c) (bytesOf 2 (kept u)) 2) d ≡ cellIn space d
+  cell-other : (d : ℕ) → (d ≡ c → ⊥) → cellIn (paste space (2 * c) (bytesOf 2 (kept u)) 2) d ≡ cellIn space d
   cell-other d n =
       number-same 2 (2 * d) (2 * d) _ space
       (elim (decLt d c) [
