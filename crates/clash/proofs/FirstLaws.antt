@@ -71,8 +71,7 @@ module _ {s opens : List ℕ} {limit lo hi at : ℕ} (k : Sweeping s opens limit
         }
 
 -- the cells of a group, as the walk goes on
-pub group-next : {s starts cells : List ℕ} {limit lo hi at : ℕ} → Group s starts cells limit lo hi at → Met s at → Stands s at → at < limit
-    → (r : Bool) (cells2 : List ℕ) (next : ℕ) → r ≡ clashIn lo hi s at → r ≡ false → cells2 ≡ noted r (cellFor starts lo hi (said s at)) at cells → next ≡ at + lengthAt s at
-    → Group s starts cells2 limit lo hi next
-group-next {s} {starts} {limit = limit} {lo} {hi} {at} g m h l r cells2 next is z c e =
-    subst (λ (x : ℕ). Group s starts cells2 limit lo hi x) (sym e) (subst (λ (y : List ℕ). Group s starts y limit lo hi (at + lengthAt s at)) (sym c) (next-group g m h l r is z))
+pub group-next : {s starts space : List ℕ} {limit lo hi at : ℕ} → Group s starts space limit lo hi at → Met s at → Stands s at → at < limit
+    → (r : Bool) (t : ℕ) (space2 : List ℕ) (next : ℕ) → r ≡ clashIn lo hi s at → r ≡ false → t ≡ said s at .txn → space2 ≡ noted r (cellFor starts lo hi (said s at)) t space
+    → next ≡ at + lengthAt s at → Group s starts space2 limit lo hi next
+group-next {s} {starts} {limit = limit} {lo} {hi} {at} g m h l r t space2 next is z own c e = rw (e, c, own) (next-group g m h l r is z)

@@ -1,9 +1,10 @@
 -- The newest change on a slot after one entry more, and the clash that it tells. Assumes nothing.
-use Prim.Native.Nat.{ℕ, zero, suc, _+_, _≤_, _<_}
+use Prim.Native.Nat.{ℕ, _+_, _-_, _%_, _≤_, _<_}
 use mathlib.Core.Path.{_≡_, refl, sym, ap, _∙_}
 use mathlib.Core.Bool.{Bool, true, false, not}
 use mathlib.Core.List.{List, [], _∷_, _++_}
 use native.Mathlib.Omega.{arith}
+use native.Mathlib.Decide.{ℕ-discrete}
 use lib.Dec.{eqb}
 use borrow.Author.Tests.{eqb-true, eq-eqb, ne-eqb}
 use Rattle.endian.specs.Pick.{pick}
@@ -11,12 +12,12 @@ use Rattle.endian.specs.Numbers.{numberAt}
 use Rattle.wal.specs.Entry.{Entry}
 use Rattle.wal.specs.Read.{lengthAt}
 use Rattle.wal.specs.Prefix.{Met, Stands, said, before}
-use Rattle.wal.proofs.Prefix.{Back, stands-at, met-from, before-first, before-next}
+use Rattle.wal.proofs.Prefix.{Back, met-from, before-first, before-next}
 use Rattle.rules.specs.Shape.{both, isChange, isOn, pageOf, slotOf, sameSlot}
 use Rattle.order.specs.State.{stateOf}
 use Rattle.order.specs.Clash.{newestFrom, newestBy, clashAfter}
 use Rattle.order.proofs.Back.{said-txn}
-use Rattle.clash.specs.Newest.{onSlot, newestOn, txnBy, Newest}
+use Rattle.clash.specs.Newest.{onSlot, newestOn, kept, Newest}
 
 -- ---- for the slot of an entry
 
@@ -76,25 +77,43 @@ newest-snoc : (i k : ℕ) (es : List Entry) (e : Entry) → newestOn i k 0 (es +
 unfolding newestOn
 newest-snoc i k es e = newest-append i k 0 es (e ∷ [])
 
+-- ---- what a cell keeps
+pub kept-zero : kept 0 ≡ 0
+unfolding kept
+kept-zero = refl
+
+pub kept-some : (u : ℕ) → (u ≡ 0 → ⊥) → kept u ≡ u % 32768 + 1
+unfolding kept
+kept-some u n = rw (ne-eqb u 0 n)
+
+pub kept-below : (u : ℕ) → kept u < 65536
+unfolding kept
+kept-below u = go (eqb u 0)
+  where
+    go : (b : Bool) → pick b 0 (u % 32768 + 1) < 65536
+    go true = omega arith
+    go false = omega arith
+
+-- a cell that is 0 keeps transaction 0, another one keeps a remainder
+pub kept-none : (u x : ℕ) → x ≡ kept u → x ≡ 0 → u ≡ 0
+kept-none u x e z = elim (ℕ-discrete u 0) [ yes h ↦ h | no h ↦ absurd (omega (arith, kept-some u h)) ]
+
+pub kept-rest : (u x : ℕ) → x ≡ kept u → (x ≡ 0 → ⊥) → (0 < u) × (u % 32768 ≡ x - 1)
+kept-rest u x e n = elim (ℕ-discrete u 0) [ yes h ↦ absurd (n (e ∙ ap kept h ∙ kept-zero)) | no h ↦ (omega arith, omega (arith, kept-some u h)) ]
+
 pub newest-first : (s : List ℕ) (i k : ℕ) → Newest s 32 i k 0
 unfolding newestOn
-newest-first s i k = record { is = sym (ap (newestOn i k 0) (before-first s)); room = λ h. absurd (omega arith) }
-
-pub txn-by : (s : List ℕ) (c : ℕ) → 0 < c → txnBy s c ≡ numberAt 8 (c + 12) s
-txn-by s zero h = absurd (omega arith)
-txn-by s (suc c) h = refl
+newest-first s i k = sym (ap (λ (es : List Entry). kept (newestOn i k 0 es)) (before-first s) ∙ kept-zero)
 
 module _ (s : List ℕ) (at : ℕ) (m : Met s at) (h : Stands s at) (i k : ℕ) where
-  pub newest-kept : {c : ℕ} → onSlot i k (said s at) ≡ false → Newest s at i k c → Newest s (at + lengthAt s at) i k c
-  newest-kept n c = record { is = c .is ∙ sym (ap (newestOn i k 0) (before-next s m h) ∙ newest-snoc i k (before s at) (said s at) ∙ rw n); room = c .room }
+  newest-next : newestOn i k 0 (before s (at + lengthAt s at)) ≡ pick (onSlot i k (said s at)) (said s at .txn) (newestOn i k 0 (before s at))
+  newest-next = ap (newestOn i k 0) (before-next s m h) ∙ newest-snoc i k (before s at) (said s at)
 
-  pub newest-new : onSlot i k (said s at) ≡ true → Newest s (at + lengthAt s at) i k at
-  newest-new y =
-      let e = stands-at h in
-      record {
-        is = txn-by s at (omega (arith, e .from)) ∙ sym (said-txn s at) ∙ sym (ap (newestOn i k 0) (before-next s m h) ∙ newest-snoc i k (before s at) (said s at) ∙ rw y);
-        room = λ z. omega (arith, e .room, e .low);
-      }
+  pub newest-kept : {c : ℕ} → onSlot i k (said s at) ≡ false → Newest s at i k c → Newest s (at + lengthAt s at) i k c
+  newest-kept n c = c ∙ sym (ap kept (newest-next ∙ rw n))
+
+  pub newest-new : onSlot i k (said s at) ≡ true → Newest s (at + lengthAt s at) i k (kept (said s at .txn))
+  newest-new y = sym (ap kept (newest-next ∙ rw y))
 
 -- which slot an entry changes
 pub off-slot : (i k : ℕ) (e : Entry) → (i ≡ pageOf e → k ≡ slotOf e → ⊥) → onSlot i k e ≡ false

@@ -1,5 +1,5 @@
--- What is kept of open transactions at the first place, and after one entry more. Assumes nothing.
-use Prim.Native.Nat.{ℕ, _+_, _%_, _≤_, _<_}
+-- What is kept of open transactions at the first place, and after one entry more; the clashes that it rules out. Assumes nothing.
+use Prim.Native.Nat.{ℕ, _+_, _-_, _%_, _≤_, _<_}
 use mathlib.Core.Path.{_≡_, refl, sym, ap, _∙_, subst}
 use mathlib.Core.Bool.{true, false}
 use mathlib.Core.List.{List}
@@ -14,11 +14,15 @@ use Rattle.wal.specs.Entry.{Entry}
 use Rattle.wal.specs.Read.{lengthAt}
 use Rattle.wal.specs.Prefix.{Met, Stands, said, before}
 use Rattle.wal.proofs.Prefix.{stands-at, before-first}
+use Rattle.rules.specs.Shape.{isChange, pageOf, slotOf}
 use Rattle.rules.proofs.Tests.{both-true}
 use Rattle.order.specs.State.{stateAfter, stateFrom, stateOf}
+use Rattle.order.specs.Clash.{clashAfter}
 use Rattle.order.proofs.Back.{said-txn}
 use Rattle.order.proofs.HintLaws.{state-own, state-keeps}
+use Rattle.clash.specs.Newest.{newestOn, Newest}
 use Rattle.clash.specs.Open.{isOf, Open, Opens}
+use Rattle.clash.proofs.NewestLaws.{clash-none, clash-own, clash-state, kept-none, kept-rest}
 
 pub opens-first : (s : List ℕ) → Opens s 32 (replicate 32768 0)
 unfolding stateFrom isOf
@@ -107,3 +111,39 @@ module _ {s : List ℕ} {at : ℕ} (m : Met s at) (h : Stands s at) where
         tell : (r : ℕ) → r < 32768 → Dec (r ≡ t % 32768) → Open s (at + lengthAt s at) r (getD (set opens (t % 32768) w) r 0)
         tell r b (yes e) = rw (e, getD-set-same opens (t % 32768) w 0 (omega (arith, k .long))) o
         tell r b (no n) = rw (getD-set-other opens (t % 32768) r w 0 n) (open-other (λ u p q e. n (sym q ∙ ap (λ (x : ℕ). x % 32768) (sym e ∙ sym is))) (k .tell r b))
+
+-- ---- the clash of a change, by what the cell of its slot keeps
+module _ {s opens : List ℕ} {at x : ℕ} (k : Opens s at opens) (change : isChange (said s at) ≡ true) (is : Newest s at (pageOf (said s at)) (slotOf (said s at)) x) where
+  newest : ℕ
+  newest = newestOn (pageOf (said s at)) (slotOf (said s at)) 0 (before s at)
+
+  pub quiet-slot : x ≡ 0 → clashAfter (before s at) (said s at) ≡ false
+  unfolding newest
+  quiet-slot z = clash-none (before s at) (said s at) change newest refl (kept-none newest x is z)
+
+  module _ (some : x ≡ 0 → ⊥) where
+    -- the remainder of the newest one's transaction
+    rest : (0 < newest) × (newest % 32768 ≡ x - 1)
+    unfolding newest
+    rest = kept-rest newest x is some
+
+    pub rest-fits : x - 1 < 32768
+    rest-fits = omega (arith, rest .1)
+
+    pub rest-open : Open s at (x - 1) (getD opens (x - 1) 0)
+    rest-open = k .tell (x - 1) rest-fits
+
+    -- no other transaction of that remainder is open
+    quiet : (getD opens (x - 1) 0 ≡ 1 → ⊥) → ((said s at .txn ≡ newest → ⊥) → isOf s newest (getD opens (x - 1) 0) ≡ false) → clashAfter (before s at) (said s at) ≡ false
+    unfolding newest
+    quiet n none =
+        elim (ℕ-discrete newest (said s at .txn)) [
+          | yes e ↦ clash-own (before s at) (said s at) change newest refl (λ z. omega (arith, rest .0)) e
+          | no e ↦ clash-state (before s at) (said s at) change newest refl (λ z. omega (arith, rest .0)) e ∙ rest-open .tells n newest (rest .0) (rest .1) ∙ none (λ z. e (sym z))
+        ]
+
+    pub quiet-none : getD opens (x - 1) 0 ≡ 0 → clashAfter (before s at) (said s at) ≡ false
+    quiet-none z = quiet (λ o. omega arith) (λ n. of-none s newest (getD opens (x - 1) 0) (omega arith))
+
+    pub quiet-own : {t : ℕ} → t ≡ said s at .txn → isOf s t (getD opens (x - 1) 0) ≡ true → clashAfter (before s at) (said s at) ≡ false
+    quiet-own {t} e o = quiet (λ z. omega (arith, of-high s t (getD opens (x - 1) 0) o)) (λ n. of-other s t (getD opens (x - 1) 0) newest (λ z. n (sym e ∙ z)) o)

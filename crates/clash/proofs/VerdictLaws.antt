@@ -198,7 +198,7 @@ top-reach {s} {p} {stop} m n l i =
     let e : topOf i (before s stop) ≡ max (topOf i (before s p)) (max (topOn i (said s p)) (topOf i (g .0))) = ap (topOf i) (g .1) ∙ top-append i (before s p) (said s p ∷ g .0) in
     omega arith
 
-pub ground : {s starts : List ℕ} {stop limit n lo hi : ℕ} → Met s stop → Sound s stop → Starts (before s stop) n starts → limit ≤ stop → lo < hi → hi ≤ n → n ≤ 4096 → getD starts hi 0 ≤ getD starts lo 0 + 163840
+pub ground : {s starts : List ℕ} {stop limit n lo hi : ℕ} → Met s stop → Sound s stop → Starts (before s stop) n starts → limit ≤ stop → lo < hi → hi ≤ n → n ≤ 4096 → getD starts hi 0 ≤ getD starts lo 0 + 327680
     → Ground s starts limit lo hi
 ground {s} {stop = stop} {n = n} m k b l o w most z =
     record {

@@ -1,12 +1,10 @@
--- The transaction of the newest change on a slot, and what a cell tells of it.
-use Prim.Native.Nat.{ℕ, zero, suc, _+_, _≤_, _<_}
+-- The transaction of the newest change on a slot, and what a cell keeps of it.
+use Prim.Native.Nat.{ℕ, zero, _+_, _%_}
 use mathlib.Core.Path.{_≡_}
 use mathlib.Core.Bool.{Bool}
 use mathlib.Core.List.{List, [], _∷_}
-use lib.ListN.{length}
 use lib.Dec.{eqb}
 use Rattle.endian.specs.Pick.{pick}
-use Rattle.endian.specs.Numbers.{numberAt}
 use Rattle.wal.specs.Entry.{Entry}
 use Rattle.wal.specs.Prefix.{before}
 use Rattle.rules.specs.Shape.{both, isOn, slotOf}
@@ -20,12 +18,10 @@ unfoldable pub newestOn : ℕ → ℕ → ℕ → List Entry → ℕ
 newestOn i k u [] = u
 newestOn i k u (e ∷ es) = newestOn i k (pick (onSlot i k e) (e .txn) u) es
 
--- a cell holds the place of a change, whose transaction stands there in the log; 0 for none
-abbrev pub txnBy : List ℕ → ℕ → ℕ
-txnBy s zero = zero
-txnBy s (suc c) = numberAt 8 (suc c + 12) s
+-- what a cell keeps of a transaction: 0 of transaction 0, else one more than its remainder
+unfoldable pub kept : ℕ → ℕ
+kept u = pick (eqb u 0) 0 (u % 32768 + 1)
 
--- by its cell, the newest change on the slot before `at`
-pub record Newest (s : List ℕ) (at i k c : ℕ) : Type 0 where
-  pub is : txnBy s c ≡ newestOn i k zero (before s at)
-  pub room : 0 < c → c + 20 ≤ length s
+-- the cell c keeps the transaction of the newest change on the slot before `at`
+abbrev pub Newest : List ℕ → ℕ → ℕ → ℕ → ℕ → Type 0
+Newest s at i k c = c ≡ kept (newestOn i k zero (before s at))

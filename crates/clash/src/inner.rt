@@ -11,7 +11,7 @@ ghost use Rattle.order.specs.Clash.{clashAfter};
 ghost use Rattle.order.specs.State.{stateOf};
 ghost use Rattle.cells.specs.Cell.{Starts, Blank};
 ghost use Rattle.cells.specs.Measure.{Sound, FirstBeyond};
-ghost use Rattle.clash.specs.Newest.{onSlot, newestOn, txnBy};
+ghost use Rattle.clash.specs.Newest.{onSlot, newestOn, kept, Newest};
 ghost use Rattle.clash.specs.Open.{isOf, Open, Opens};
 ghost use Rattle.clash.specs.First.{Shaped, clashIn, FirstIn};
 ghost use Rattle.clash.specs.Group.{Known, Ground, cellFor, noted};
@@ -19,6 +19,7 @@ use cells::inner::cell_at;
 use cells::inner::clear;
 use cells::inner::group_end;
 use cells::inner::page_at;
+use endian::inner::put_u16;
 use endian::inner::u16_at;
 use endian::inner::u64_at;
 use order::inner::is_change;
@@ -110,99 +111,37 @@ fn clashes_with(log: &[u8], at: usize, t: u64, u: u64, opens: &[u32; 32768]) -> 
     is_open(log, at, opens, u)
 }
 
-// The transaction of the change at the place that a cell holds; 0 for none.
-fn txn_by(log: &[u8], cell: u32) -> u64
-    requires { ⌜ (0 < cell → cell + 20 ≤ length (now log)) ⌝ }
-    ensures { λ r. ⌜ r ≡ txnBy (now (log .entry)) cell ⌝ }
+// What a cell keeps of transaction t.
+fn kept_of(t: u64) -> u16
+    ensures { λ r. ⌜ r ≡ kept t ⌝ }
 {
-    if cell == 0 {
+    if t == 0 {
         return 0;
     }
-    u64_at(log, cell as usize + 12)
+    (t % 32768) as u16 + 1
 }
 
-// The cell of the slot that the entry at `at` changes, if its page is one of the group; else 163840.
+// The cell of the slot that the entry at `at` changes, if its page is one of the group; else 327680.
 fn cell_for(log: &[u8], at: usize, kind: u8, starts: &[u32; 4097], lo: usize, hi: usize) -> usize
     requires { ⌜ (kind ≡ said (now log) at .kind) × (isShaped (said (now log) at) ≡ true) × (lo ≤ hi) × (hi ≤ 4096) ⌝ }
     requires { ⌜ Stands (now log) at ⌝ }
     requires { ⌜ (isChange (said (now log) at) ≡ true → lo ≤ pageOf (said (now log) at) → pageOf (said (now log) at) < hi → getD (now starts) lo 0 ≤ getD (now starts) (pageOf (said (now log) at)) 0) ⌝ }
     requires { ⌜ (isChange (said (now log) at) ≡ true → lo ≤ pageOf (said (now log) at) → pageOf (said (now log) at) < hi
-        → getD (now starts) (pageOf (said (now log) at)) 0 - getD (now starts) lo 0 + slotOf (said (now log) at) < 163840) ⌝ }
+        → getD (now starts) (pageOf (said (now log) at)) 0 - getD (now starts) lo 0 + slotOf (said (now log) at) < 327680) ⌝ }
     ensures { λ r. ⌜ r ≡ cellFor (now (starts .entry)) lo hi (said (now (log .entry)) at) ⌝ }
 {
     if !is_change(kind) {
-        return 163840;
+        return 327680;
     }
     let i = page_at(log, at, hi);
     if i < lo {
-        return 163840;
+        return 327680;
     }
     if i >= hi {
-        return 163840;
+        return 327680;
     }
     let k = u16_at(log, at + 35) as usize;
     cell_at(starts, lo, i, k)
-}
-
-// Whether the entry at `at` clashes on a page of the group; if it does not, its cell takes its place.
-fn touch(
-    log: &[u8],
-    at: usize,
-    kind: u8,
-    t: u64,
-    starts: &[u32; 4097],
-    lo: usize,
-    hi: usize,
-    cells: &mut [u32],
-    opens: &[u32; 32768],
-) -> bool
-    requires { ⌜ (kind ≡ said (now log) at .kind) × (isShaped (said (now log) at) ≡ true) × (lo ≤ hi) × (hi ≤ 4096) ⌝ }
-    requires { ⌜ (t ≡ said (now log) at .txn) × (length (now log) ≤ 16777216) × (length (now cells) ≡ 163840) ⌝ }
-    requires { ⌜ Met (now log) at ⌝ }
-    requires { ⌜ Stands (now log) at ⌝ }
-    requires { ⌜ Known (now log) (now starts) (now cells) lo hi at ⌝ }
-    requires { ⌜ Opens (now log) at (now opens) ⌝ }
-    ensures { λ r. ⌜ r ≡ clashIn lo hi (now (log .entry)) at ⌝ }
-    ensures { λ r. ⌜ now (cells .exit) ≡ noted r (cellFor (now (starts .entry)) lo hi (said (now (log .entry)) at)) at (now (cells .entry)) ⌝ }
-{
-    let c = cell_for(log, at, kind, starts, lo, hi);
-    if c == 163840 {
-        return false;
-    }
-    let u = txn_by(log, cells[c]);
-    if clashes_with(log, at, t, u, opens) {
-        return true;
-    }
-    cells[c] = at as u32;
-    false
-}
-
-// The first clash before limit on a page of the group, or limit; over zeroed cells.
-fn clash_in(
-    log: &[u8],
-    limit: usize,
-    starts: &[u32; 4097],
-    lo: usize,
-    hi: usize,
-    cells: &mut [u32],
-) -> usize
-    requires { ⌜ (length (now log) ≤ 16777216) × (length (now cells) ≡ 163840) ⌝ }
-    requires { ⌜ Met (now log) limit ⌝ }
-    requires { ⌜ Ground (now log) (now starts) limit lo hi ⌝ }
-    requires { ⌜ Blank (now cells) ⌝ }
-    ensures { λ r. ⌜ FirstIn lo hi (now (log .entry)) limit r ⌝ }
-{
-    let mut opens = [0u32; 32768];
-    let mut at = FIRST;
-    while at < limit {
-        let v = standing(log, at);
-        if touch(log, at, v.kind, v.txn.0, starts, lo, hi, cells, &opens) {
-            return at;
-        }
-        enter(log, at, v.kind, v.txn.0, &mut opens);
-        at += v.length;
-    }
-    limit
 }
 
 // Whether the entry at place changes this slot of this page.
@@ -239,6 +178,103 @@ fn newest_back(log: &[u8], place: usize, page: u64, slot: u16) -> u64
     }
 }
 
+// Whether the change at `at`, by transaction t, clashes; by stepping backward to the newest one on its slot.
+fn clashes_back(log: &[u8], at: usize, t: u64, opens: &[u32; 32768]) -> bool
+    requires { ⌜ (t ≡ said (now log) at .txn) × (isChange (said (now log) at) ≡ true) × (isShaped (said (now log) at) ≡ true) ⌝ }
+    requires { ⌜ Met (now log) at ⌝ }
+    requires { ⌜ Stands (now log) at ⌝ }
+    requires { ⌜ Shaped (now log) at ⌝ }
+    requires { ⌜ Opens (now log) at (now opens) ⌝ }
+    ensures { λ r. ⌜ r ≡ clashAfter (before (now (log .entry)) at) (said (now (log .entry)) at) ⌝ }
+{
+    let u = newest_back(log, at, u64_at(log, at + 27), u16_at(log, at + 35));
+    clashes_with(log, at, t, u, opens)
+}
+
+// The same by x, which the cell of the slot keeps: no clash where no transaction of that remainder is open, nor where t alone is; else the log is asked.
+fn clashes_by_cell(log: &[u8], at: usize, t: u64, x: u16, opens: &[u32; 32768]) -> bool
+    requires { ⌜ (t ≡ said (now log) at .txn) × (isChange (said (now log) at) ≡ true) × (isShaped (said (now log) at) ≡ true) ⌝ }
+    requires { ⌜ Met (now log) at ⌝ }
+    requires { ⌜ Stands (now log) at ⌝ }
+    requires { ⌜ Shaped (now log) at ⌝ }
+    requires { ⌜ Opens (now log) at (now opens) ⌝ }
+    requires { ⌜ Newest (now log) at (pageOf (said (now log) at)) (slotOf (said (now log) at)) x ⌝ }
+    ensures { λ r. ⌜ r ≡ clashAfter (before (now (log .entry)) at) (said (now (log .entry)) at) ⌝ }
+{
+    if x == 0 {
+        return false;
+    }
+    let v = opens[x as usize - 1];
+    if v == 0 {
+        return false;
+    }
+    if is_of(log, t, v) {
+        return false;
+    }
+    clashes_back(log, at, t, opens)
+}
+
+// Whether the entry at `at` clashes on a page of the group; if it does not, its cell keeps its transaction.
+fn touch(
+    log: &[u8],
+    at: usize,
+    kind: u8,
+    t: u64,
+    starts: &[u32; 4097],
+    lo: usize,
+    hi: usize,
+    space: &mut [u8],
+    opens: &[u32; 32768],
+) -> bool
+    requires { ⌜ (kind ≡ said (now log) at .kind) × (isShaped (said (now log) at) ≡ true) × (lo ≤ hi) × (hi ≤ 4096) ⌝ }
+    requires { ⌜ (t ≡ said (now log) at .txn) × (length (now space) ≡ 655360) ⌝ }
+    requires { ⌜ Met (now log) at ⌝ }
+    requires { ⌜ Stands (now log) at ⌝ }
+    requires { ⌜ Shaped (now log) at ⌝ }
+    requires { ⌜ Known (now log) (now starts) (now space) lo hi at ⌝ }
+    requires { ⌜ Opens (now log) at (now opens) ⌝ }
+    ensures { λ r. ⌜ r ≡ clashIn lo hi (now (log .entry)) at ⌝ }
+    ensures { λ r. ⌜ now (space .exit) ≡ noted r (cellFor (now (starts .entry)) lo hi (said (now (log .entry)) at)) t (now (space .entry)) ⌝ }
+{
+    let c = cell_for(log, at, kind, starts, lo, hi);
+    if c == 327680 {
+        return false;
+    }
+    if clashes_by_cell(log, at, t, u16_at(space, 2 * c), opens) {
+        return true;
+    }
+    put_u16(space, 2 * c, kept_of(t));
+    false
+}
+
+// The first clash before limit on a page of the group, or limit; over zeroed space.
+fn clash_in(
+    log: &[u8],
+    limit: usize,
+    starts: &[u32; 4097],
+    lo: usize,
+    hi: usize,
+    space: &mut [u8],
+) -> usize
+    requires { ⌜ (length (now log) ≤ 16777216) × (length (now space) ≡ 655360) ⌝ }
+    requires { ⌜ Met (now log) limit ⌝ }
+    requires { ⌜ Ground (now log) (now starts) limit lo hi ⌝ }
+    requires { ⌜ Blank (now space) ⌝ }
+    ensures { λ r. ⌜ FirstIn lo hi (now (log .entry)) limit r ⌝ }
+{
+    let mut opens = [0u32; 32768];
+    let mut at = FIRST;
+    while at < limit {
+        let v = standing(log, at);
+        if touch(log, at, v.kind, v.txn.0, starts, lo, hi, space, &opens) {
+            return at;
+        }
+        enter(log, at, v.kind, v.txn.0, &mut opens);
+        at += v.length;
+    }
+    limit
+}
+
 // Whether the entry at `at` clashes on a page that is none of the first n.
 fn touch_beyond(log: &[u8], at: usize, kind: u8, t: u64, n: usize, opens: &[u32; 32768]) -> bool
     requires { ⌜ (kind ≡ said (now log) at .kind) × (t ≡ said (now log) at .txn) × (isShaped (said (now log) at) ≡ true) ⌝ }
@@ -255,8 +291,7 @@ fn touch_beyond(log: &[u8], at: usize, kind: u8, t: u64, n: usize, opens: &[u32;
     if page < n as u64 {
         return false;
     }
-    let u = newest_back(log, at, page, u16_at(log, at + 35));
-    clashes_with(log, at, t, u, opens)
+    clashes_back(log, at, t, opens)
 }
 
 // The first clash before limit on a page that is none of the first n, or limit.
@@ -286,7 +321,7 @@ pub fn clash(
     n: usize,
     beyond: usize,
     starts: &[u32; 4097],
-    cells: &mut [u32; 163840],
+    space: &mut [u8; 655360],
 ) -> usize
     requires { ⌜ (n ≤ 4096) × (length (now log) ≤ 16777216) ⌝ }
     requires { ⌜ Met (now log) stop ⌝ }
@@ -299,8 +334,8 @@ pub fn clash(
     let mut lo = 0;
     while lo < n {
         let hi = group_end(starts, lo, n);
-        clear(cells);
-        limit = clash_in(log, limit, starts, lo, hi, &mut cells[..]);
+        clear(space);
+        limit = clash_in(log, limit, starts, lo, hi, &mut space[..]);
         lo = hi;
     }
     if beyond < limit {

@@ -11,10 +11,10 @@ use Rattle.clash.proofs.inner.clash.Statement.{statement}
 use Rattle.clash.proofs.inner.clash.Tie as tie
 
 abbrev Inv-loop : tie.InvT-loop
-Inv-loop log stop n beyond starts cells₀ limit₀ lo₀ cells limit lo = (lo ≤ n) × FirstIn 0 lo log stop limit
+Inv-loop log stop n beyond starts space₀ limit₀ lo₀ space limit lo = (lo ≤ n) × FirstIn 0 lo log stop limit
 
 abbrev μ-loop : tie.MeasureT-loop
-μ-loop log stop n beyond starts cells₀ limit₀ lo₀ cells limit lo = n - lo
+μ-loop log stop n beyond starts space₀ limit₀ lo₀ space limit lo = n - lo
 
 bytes : (c : tie.After-shared-slice-known Inv-loop μ-loop) → Bytes (c .before .args .log .now)
 bytes c = record { at = λ i. omega (arith, c .shared-slice-known .given i) }

@@ -11,10 +11,10 @@ use Rattle.clash.proofs.inner.clash_in.Statement.{statement}
 use Rattle.clash.proofs.inner.clash_in.Tie as tie
 
 abbrev Inv-loop : tie.InvT-loop
-Inv-loop log limit starts lo hi cells₀ opens₀ at₀ cells opens at = Sweeping log opens limit lo hi at × Group log starts cells limit lo hi at
+Inv-loop log limit starts lo hi space₀ opens₀ at₀ space opens at = Sweeping log opens limit lo hi at × Group log starts space limit lo hi at
 
 abbrev μ-loop : tie.MeasureT-loop
-μ-loop log limit starts lo hi cells₀ opens₀ at₀ cells opens at = limit - at
+μ-loop log limit starts lo hi space₀ opens₀ at₀ space opens at = limit - at
 
 -- the entry that was read
 stands : (f : tie.After-standing Inv-loop μ-loop) → Stands (f .before .before .before .before .before .args .log .now) (f .before .before .loop .at)
@@ -30,13 +30,12 @@ touch-requires : tie.Need-touch-requires Inv-loop μ-loop
 touch-requires c κs =
     let f = c .before .before in
     let k = f .before .before .loop .inv in
-    let p = f .before .before .before .before .before .pre in
     let g = k .1 .ground in
     let e = f .standing .ensures in (
       (view-kind _ _ e, g .shaped _ (k .0 .met) (f .before .loop-test .taken), omega (arith, g .order), omega (arith, g .within, g .most)),
       (
-        (view-txn _ _ e, p .0 .0, k .1 .long),
-        (k .0 .met, (stands f, (known (k .1) (k .0 .met) (stands f) (f .before .loop-test .taken), k .0 .told))),
+        (view-txn _ _ e, k .1 .long),
+        (k .0 .met, (stands f, (record { at = λ q m l. g .shaped q m (omega (arith, k .0 .upTo)) }, (known (k .1) (k .0 .met) (stands f) (f .before .loop-test .taken), k .0 .told)))),
       ),
     )
 
@@ -73,7 +72,7 @@ loop-again c =
     let u = b .before .before .before .touch .ensures in
     let next = ap (λ (x : ℕ). f .before .before .loop .at + x) (view-length _ _ e) in (
       sweeping-next (k .0) (f .before .before .before .before .before .pre .1 .0) (f .before .loop-test .taken) _ _ (sym (u .0) ∙ b .if1 .left) next (c .before .enter .ensures),
-      group-next (k .1) (k .0 .met) (stands f) (f .before .loop-test .taken) _ _ _ (u .0) (b .if1 .left) (u .1) next,
+      group-next (k .1) (k .0 .met) (stands f) (f .before .loop-test .taken) _ _ _ _ (u .0) (b .if1 .left) (view-txn _ _ e) (u .1) next,
     )
 
 same-length-2 : tie.Need-same-length-2 Inv-loop μ-loop

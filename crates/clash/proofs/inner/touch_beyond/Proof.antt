@@ -1,14 +1,12 @@
-use Prim.Native.Nat.{ℕ}
-use mathlib.Core.Path.{_≡_, sym, ap, ap₂, _∙_}
+use mathlib.Core.Path.{_≡_, sym, ap, _∙_}
 use mathlib.Core.Bool.{true}
 use native.Mathlib.Omega.{arith}
 use Rattle.endian.specs.Numbers.{Bytes}
-use Rattle.wal.specs.Prefix.{said, before}
+use Rattle.wal.specs.Prefix.{said}
 use Rattle.rules.specs.Shape.{isChange, isChanging}
 use Rattle.rules.proofs.Tests.{not-true}
 use Rattle.order.proofs.Shapes.{not-false}
 use Rattle.cells.proofs.Keys.{KeyAt, key-at}
-use Rattle.clash.specs.Newest.{newestOn}
 use Rattle.clash.proofs.VerdictLaws.{no-change-beyond, low-beyond, high-beyond}
 use borrow.Author.Needs.{needs}
 use Rattle.clash.proofs.inner.touch_beyond.Statement.{statement}
@@ -43,27 +41,18 @@ returns-2 c =
     let f = c .before .before in
     sym (low-beyond _ _ _ (bytes (f .before .before)) (omega (arith, key f .page, c .before .u64-at .ensures, c .if2 .taken)))
 
-add-u16-at : tie.Need-add-u16-at
-add-u16-at c = let f = c .before .before in omega (arith, key f .room, f .before .before .before .good .0)
-
-u16-at-requires : tie.Need-u16-at-requires
-u16-at-requires c κs = omega (arith, key (c .before .before) .room)
-
-clashes-with-requires : tie.Need-clashes-with-requires
-clashes-with-requires c κs =
-    let f = c .before .before .before .before in
+clashes-back-requires : tie.Need-clashes-back-requires
+clashes-back-requires c κs =
+    let f = c .before .before in
     let p = f .before .before .before .pre in
-    let a = f .before .before .before .args in (
-      (p .0 .1, change f, c .newest-back .ensures ∙ ap₂ (λ (x y : ℕ). newestOn x y 0 (before (a .log .now) (a .at))) (c .before .before .before .u64-at .ensures ∙ sym (key f .page)) (c .before .u16-at .ensures ∙ sym (key f .slot))),
-      (p .1 .0, p .1 .1 .1 .1),
-    )
+    ((p .0 .1, change f, p .0 .2), (p .1 .0, (p .1 .1 .0, (p .1 .1 .1 .0, p .1 .1 .1 .1))))
 
 returns-3 : tie.Need-returns-3
 returns-3 c =
-    let f = c .before .before .before .before .before in
-    high-beyond _ _ _ (bytes (f .before .before)) (omega (arith, key f .page, c .before .before .before .before .u64-at .ensures, c .before .before .before .if2 .left)) (c .clashes-with .ensures)
+    let f = c .before .before .before in
+    high-beyond _ _ _ (bytes (f .before .before)) (omega (arith, key f .page, c .before .before .u64-at .ensures, c .before .if2 .left)) (c .clashes-back .ensures)
 
 pub touch-beyond-spec : {M : Type 1} → statement M
 touch-beyond-spec =
     tie.close
-    (tie.spec (λ c κs. search needs) returns add-u64-at u64-at-requires returns-2 add-u16-at u16-at-requires (λ c κs. search needs) clashes-with-requires returns-3)
+    (tie.spec (λ c κs. search needs) returns add-u64-at u64-at-requires returns-2 clashes-back-requires returns-3)
