@@ -20,16 +20,16 @@ use Rattle.order.specs.State.{stateAfter, stateFrom, stateOf}
 use Rattle.order.specs.Clash.{clashAfter}
 use Rattle.order.proofs.Back.{said-txn}
 use Rattle.order.proofs.HintLaws.{state-own, state-keeps}
-use Rattle.clash.specs.Newest.{newestOn, Newest}
+use Rattle.clash.specs.Newest.{newestOn, kept, Newest}
 use Rattle.clash.specs.Open.{isOf, Open, Opens}
 use Rattle.clash.proofs.NewestLaws.{clash-none, clash-own, clash-state, kept-none, kept-rest}
 
-pub opens-first : (s : List ℕ) → Opens s 32 (replicate 32768 0)
+pub opens-first : (s : List ℕ) → Opens s 32 (replicate 32767 0)
 unfolding stateFrom isOf
 opens-first s =
     record {
-      long = length-replicate {0} {A = ℕ} 32768 0;
-      tell = λ r h. subst (Open s 32 r) (sym (getD-replicate 32768 r 0 0 h))
+      long = length-replicate {0} {A = ℕ} 32767 0;
+      tell = λ r h. subst (Open s 32 r) (sym (getD-replicate 32767 r 0 0 h))
           (record { within = λ l. absurd (omega arith); tells = λ n t p q. ap (λ (es : List Entry). eqb (stateOf t es) 1) (before-first s) });
     }
 
@@ -60,7 +60,7 @@ module _ {s : List ℕ} {at : ℕ} (m : Met s at) (h : Stands s at) where
   of-own = of-place s (said s at .txn) at (omega (arith, stands-at h .from)) ∙ eq-eqb _ _ (sym (said-txn s at))
 
   -- what is kept of transactions other than the entry's stays
-  open-other : {r v : ℕ} → ((t : ℕ) → 0 < t → t % 32768 ≡ r → said s at .txn ≡ t → ⊥) → Open s at r v → Open s (at + lengthAt s at) r v
+  open-other : {r v : ℕ} → ((t : ℕ) → 0 < t → t % 32767 ≡ r → said s at .txn ≡ t → ⊥) → Open s at r v → Open s (at + lengthAt s at) r v
   open-other n k = record { within = k .within; tells = λ o t p q. ap (λ (x : ℕ). eqb x 1) (state-keeps s at m h t (n t p q)) ∙ k .tells o t p q }
 
   -- w takes the place of v: it tells of the entry's transaction what the entry's type says, and of others what v told
@@ -69,7 +69,7 @@ module _ {s : List ℕ} {at : ℕ} (m : Met s at) (h : Stands s at) where
       → Open s (at + lengthAt s at) r w
   open-next {r} w k within known own others = record { within = within; tells = λ n t p q. tells n t p q (ℕ-discrete (said s at .txn) t) }
     where
-      tells : (w ≡ 1 → ⊥) → (t : ℕ) → 0 < t → t % 32768 ≡ r → Dec (said s at .txn ≡ t) → eqb (stateOf t (before s (at + lengthAt s at))) 1 ≡ isOf s t w
+      tells : (w ≡ 1 → ⊥) → (t : ℕ) → 0 < t → t % 32767 ≡ r → Dec (said s at .txn ≡ t) → eqb (stateOf t (before s (at + lengthAt s at))) 1 ≡ isOf s t w
       tells n t p q (yes e) = ap (λ (x : ℕ). eqb x 1) (state-own s at m h t e) ∙ sym own ∙ ap (λ (u : ℕ). isOf s u w) e
       tells n t p q (no e) = ap (λ (x : ℕ). eqb x 1) (state-keeps s at m h t e) ∙ k .tells (known n) t p q ∙ sym (others t e)
 
@@ -105,12 +105,12 @@ module _ {s : List ℕ} {at : ℕ} (m : Met s at) (h : Stands s at) where
     pub opens-zero : t ≡ 0 → Opens s (at + lengthAt s at) opens
     opens-zero z = record { long = k .long; tell = λ r b. open-other (λ u p q e. omega arith) (k .tell r b) }
 
-    pub opens-next : (w : ℕ) → Open s (at + lengthAt s at) (t % 32768) w → Opens s (at + lengthAt s at) (set opens (t % 32768) w)
-    opens-next w o = record { long = simp length-set (k .long); tell = λ r b. tell r b (ℕ-discrete r (t % 32768)) }
+    pub opens-next : (w : ℕ) → Open s (at + lengthAt s at) (t % 32767) w → Opens s (at + lengthAt s at) (set opens (t % 32767) w)
+    opens-next w o = record { long = simp length-set (k .long); tell = λ r b. tell r b (ℕ-discrete r (t % 32767)) }
       where
-        tell : (r : ℕ) → r < 32768 → Dec (r ≡ t % 32768) → Open s (at + lengthAt s at) r (getD (set opens (t % 32768) w) r 0)
-        tell r b (yes e) = rw (e, getD-set-same opens (t % 32768) w 0 (omega (arith, k .long))) o
-        tell r b (no n) = rw (getD-set-other opens (t % 32768) r w 0 n) (open-other (λ u p q e. n (sym q ∙ ap (λ (x : ℕ). x % 32768) (sym e ∙ sym is))) (k .tell r b))
+        tell : (r : ℕ) → r < 32767 → Dec (r ≡ t % 32767) → Open s (at + lengthAt s at) r (getD (set opens (t % 32767) w) r 0)
+        tell r b (yes e) = rw (e, getD-set-same opens (t % 32767) w 0 (omega (arith, k .long))) o
+        tell r b (no n) = rw (getD-set-other opens (t % 32767) r w 0 n) (open-other (λ u p q e. n (sym q ∙ ap (λ (x : ℕ). x % 32767) (sym e ∙ sym is))) (k .tell r b))
 
 -- ---- the clash of a change, by what the cell of its slot keeps
 module _ {s opens : List ℕ} {at x : ℕ} (k : Opens s at opens) (change : isChange (said s at) ≡ true) (is : Newest s at (pageOf (said s at)) (slotOf (said s at)) x) where
@@ -123,27 +123,30 @@ module _ {s opens : List ℕ} {at x : ℕ} (k : Opens s at opens) (change : isCh
 
   module _ (some : x ≡ 0 → ⊥) where
     -- the remainder of the newest one's transaction
-    rest : (0 < newest) × (newest % 32768 ≡ x - 1)
+    rest : (0 < newest) × (newest % 32767 ≡ (x - 1) % 32767)
     unfolding newest
     rest = kept-rest newest x is some
 
-    pub rest-fits : x - 1 < 32768
-    rest-fits = omega (arith, rest .1)
+    pub rest-open : Open s at ((x - 1) % 32767) (getD opens ((x - 1) % 32767) 0)
+    rest-open = k .tell ((x - 1) % 32767) (omega arith)
 
-    pub rest-open : Open s at (x - 1) (getD opens (x - 1) 0)
-    rest-open = k .tell (x - 1) rest-fits
+    -- the transaction of the newest one is not open
+    module _ {v : ℕ} (told : v ≡ getD opens ((x - 1) % 32767) 0) where
+      quiet : (v ≡ 1 → ⊥) → ((said s at .txn ≡ newest → ⊥) → isOf s newest v ≡ false) → clashAfter (before s at) (said s at) ≡ false
+      unfolding newest
+      quiet n none =
+          elim (ℕ-discrete newest (said s at .txn)) [
+            | yes e ↦ clash-own (before s at) (said s at) change newest refl (λ z. omega (arith, rest .0)) e
+            | no e ↦ clash-state (before s at) (said s at) change newest refl (λ z. omega (arith, rest .0)) e
+                ∙ subst (Open s at ((x - 1) % 32767)) (sym told) rest-open .tells n newest (rest .0) (rest .1) ∙ none (λ z. e (sym z))
+          ]
 
-    -- no other transaction of that remainder is open
-    quiet : (getD opens (x - 1) 0 ≡ 1 → ⊥) → ((said s at .txn ≡ newest → ⊥) → isOf s newest (getD opens (x - 1) 0) ≡ false) → clashAfter (before s at) (said s at) ≡ false
-    unfolding newest
-    quiet n none =
-        elim (ℕ-discrete newest (said s at .txn)) [
-          | yes e ↦ clash-own (before s at) (said s at) change newest refl (λ z. omega (arith, rest .0)) e
-          | no e ↦ clash-state (before s at) (said s at) change newest refl (λ z. omega (arith, rest .0)) e ∙ rest-open .tells n newest (rest .0) (rest .1) ∙ none (λ z. e (sym z))
-        ]
+      pub quiet-none : v ≡ 0 → clashAfter (before s at) (said s at) ≡ false
+      quiet-none z = quiet (λ o. omega arith) (λ n. of-none s newest v (omega arith))
 
-    pub quiet-none : getD opens (x - 1) 0 ≡ 0 → clashAfter (before s at) (said s at) ≡ false
-    quiet-none z = quiet (λ o. omega arith) (λ n. of-none s newest (getD opens (x - 1) 0) (omega arith))
+      pub quiet-own : {t : ℕ} → t ≡ said s at .txn → isOf s t v ≡ true → clashAfter (before s at) (said s at) ≡ false
+      quiet-own {t} e o = quiet (λ z. omega (arith, of-high s t v o)) (λ n. of-other s t v newest (λ z. n (sym e ∙ z)) o)
 
-    pub quiet-own : {t : ℕ} → t ≡ said s at .txn → isOf s t (getD opens (x - 1) 0) ≡ true → clashAfter (before s at) (said s at) ≡ false
-    quiet-own {t} e o = quiet (λ z. omega (arith, of-high s t (getD opens (x - 1) 0) o)) (λ n. of-other s t (getD opens (x - 1) 0) newest (λ z. n (sym e ∙ z)) o)
+      pub quiet-rest : 1 < v → (kept (numberAt 8 (v + 12) s) ≡ x → ⊥) → clashAfter (before s at) (said s at) ≡ false
+      unfolding newest
+      quiet-rest h n = quiet (λ z. omega arith) (λ o. of-place s newest v h ∙ ne-eqb _ newest (λ e. n (ap kept e ∙ sym is)))

@@ -17,8 +17,8 @@ isOf s t v = both (ltb 1 v) (eqb (numberAt 8 (v + 12) s) t)
 -- v is 1, which tells nothing; or a transaction of remainder r, other than 0, is open before `at` where the entry at v is its own, and only there
 pub record Open (s : List ℕ) (at r v : ℕ) : Type 0 where
   pub within : 1 < v → v + 20 ≤ length s
-  pub tells : (v ≡ 1 → ⊥) → (t : ℕ) → 0 < t → t % 32768 ≡ r → eqb (stateOf t (before s at)) 1 ≡ isOf s t v
+  pub tells : (v ≡ 1 → ⊥) → (t : ℕ) → 0 < t → t % 32767 ≡ r → eqb (stateOf t (before s at)) 1 ≡ isOf s t v
 
 pub record Opens (s : List ℕ) (at : ℕ) (opens : List ℕ) : Type 0 where
-  pub long : length opens ≡ 32768
-  pub tell : (r : ℕ) → r < 32768 → Open s at r (getD opens r 0)
+  pub long : length opens ≡ 32767
+  pub tell : (r : ℕ) → r < 32767 → Open s at r (getD opens r 0)

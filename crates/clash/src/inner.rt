@@ -4,6 +4,7 @@ ghost use mathlib.Core.Bool.{true, false};
 ghost use Prim.Native.Nat.{_+_, _-_, _%_, _^_, _≤_, _<_};
 ghost use lib.ListN.{length, getD};
 ghost use lib.Dec.{eqb};
+ghost use Rattle.endian.specs.Numbers.{numberAt};
 ghost use Rattle.wal.specs.Read.{lengthAt};
 ghost use Rattle.wal.specs.Prefix.{Met, Stands, said, before};
 ghost use Rattle.rules.specs.Shape.{isChange, isShaped, pageOf, slotOf};
@@ -45,8 +46,8 @@ fn entered(log: &[u8], at: usize, kind: u8, t: u64, v: u32) -> u32
     requires { ⌜ (length (now log) ≤ 16777216) × (kind ≡ said (now log) at .kind) × (t ≡ said (now log) at .txn) ⌝ }
     requires { ⌜ Met (now log) at ⌝ }
     requires { ⌜ Stands (now log) at ⌝ }
-    requires { ⌜ Open (now log) at (t % 32768) v ⌝ }
-    ensures { λ r. ⌜ Open (now (log .entry)) (at + lengthAt (now (log .entry)) at) (t % 32768) r ⌝ }
+    requires { ⌜ Open (now log) at (t % 32767) v ⌝ }
+    ensures { λ r. ⌜ Open (now (log .entry)) (at + lengthAt (now (log .entry)) at) (t % 32767) r ⌝ }
 {
     let own = is_of(log, t, v);
     if state_after(kind) == 1 {
@@ -65,7 +66,7 @@ fn entered(log: &[u8], at: usize, kind: u8, t: u64, v: u32) -> u32
 }
 
 // Notes the entry at `at`, of transaction t. Of transaction 0 nothing is kept: none clashes with it.
-fn enter(log: &[u8], at: usize, kind: u8, t: u64, opens: &mut [u32; 32768])
+fn enter(log: &[u8], at: usize, kind: u8, t: u64, opens: &mut [u32; 32767])
     requires { ⌜ (length (now log) ≤ 16777216) × (kind ≡ said (now log) at .kind) × (t ≡ said (now log) at .txn) ⌝ }
     requires { ⌜ Met (now log) at ⌝ }
     requires { ⌜ Stands (now log) at ⌝ }
@@ -75,19 +76,19 @@ fn enter(log: &[u8], at: usize, kind: u8, t: u64, opens: &mut [u32; 32768])
     if t == 0 {
         return;
     }
-    let r = (t % 32768) as usize;
+    let r = (t % 32767) as usize;
     let v = entered(log, at, kind, t, opens[r]);
     opens[r] = v;
 }
 
 // Whether transaction u is open before `at`; by stepping backward where nothing is known of its remainder.
-fn is_open(log: &[u8], at: usize, opens: &[u32; 32768], u: u64) -> bool
+fn is_open(log: &[u8], at: usize, opens: &[u32; 32767], u: u64) -> bool
     requires { ⌜ 0 < u ⌝ }
     requires { ⌜ Met (now log) at ⌝ }
     requires { ⌜ Opens (now log) at (now opens) ⌝ }
     ensures { λ r. ⌜ r ≡ eqb (stateOf u (before (now (log .entry)) at)) 1 ⌝ }
 {
-    let r = (u % 32768) as usize;
+    let r = (u % 32767) as usize;
     let v = opens[r];
     if v == 1 {
         return look_back(log, at, u) == 1;
@@ -96,7 +97,7 @@ fn is_open(log: &[u8], at: usize, opens: &[u32; 32768], u: u64) -> bool
 }
 
 // Whether the change at `at`, by transaction t, clashes with the newest one on its slot, which is by transaction u.
-fn clashes_with(log: &[u8], at: usize, t: u64, u: u64, opens: &[u32; 32768]) -> bool
+fn clashes_with(log: &[u8], at: usize, t: u64, u: u64, opens: &[u32; 32767]) -> bool
     requires { ⌜ (t ≡ said (now log) at .txn) × (isChange (said (now log) at) ≡ true) × (u ≡ newestOn (pageOf (said (now log) at)) (slotOf (said (now log) at)) 0 (before (now log) at)) ⌝ }
     requires { ⌜ Met (now log) at ⌝ }
     requires { ⌜ Opens (now log) at (now opens) ⌝ }
@@ -118,7 +119,7 @@ fn kept_of(t: u64) -> u16
     if t == 0 {
         return 0;
     }
-    (t % 32768) as u16 + 1
+    (t % 65534) as u16 + 1
 }
 
 // The cell of the slot that the entry at `at` changes, if its page is one of the group; else 327680.
@@ -179,7 +180,7 @@ fn newest_back(log: &[u8], place: usize, page: u64, slot: u16) -> u64
 }
 
 // Whether the change at `at`, by transaction t, clashes; by stepping backward to the newest one on its slot.
-fn clashes_back(log: &[u8], at: usize, t: u64, opens: &[u32; 32768]) -> bool
+fn clashes_back(log: &[u8], at: usize, t: u64, opens: &[u32; 32767]) -> bool
     requires { ⌜ (t ≡ said (now log) at .txn) × (isChange (said (now log) at) ≡ true) × (isShaped (said (now log) at) ≡ true) ⌝ }
     requires { ⌜ Met (now log) at ⌝ }
     requires { ⌜ Stands (now log) at ⌝ }
@@ -191,8 +192,20 @@ fn clashes_back(log: &[u8], at: usize, t: u64, opens: &[u32; 32768]) -> bool
     clashes_with(log, at, t, u, opens)
 }
 
-// The same by x, which the cell of the slot keeps: no clash where no transaction of that remainder is open, nor where t alone is; else the log is asked.
-fn clashes_by_cell(log: &[u8], at: usize, t: u64, x: u16, opens: &[u32; 32768]) -> bool
+// Whether the one transaction that is open by v may be what a cell keeps as x.
+fn may_be(log: &[u8], v: u32, x: u16) -> bool
+    requires { ⌜ (1 < v → v + 20 ≤ length (now log)) ⌝ }
+    ensures { λ r. ⌜ (r ≡ false → (1 < v) × (kept (numberAt 8 (v + 12) (now (log .entry))) ≡ x → ⊥)) ⌝ }
+{
+    if v <= 1 {
+        return true;
+    }
+    kept_of(u64_at(log, v as usize + 12)) == x
+}
+
+// The same by x, which the cell of the slot keeps: no clash where no transaction of that remainder is open, nor where t alone or one that x does not keep is;
+// else the log is asked.
+fn clashes_by_cell(log: &[u8], at: usize, t: u64, x: u16, opens: &[u32; 32767]) -> bool
     requires { ⌜ (t ≡ said (now log) at .txn) × (isChange (said (now log) at) ≡ true) × (isShaped (said (now log) at) ≡ true) ⌝ }
     requires { ⌜ Met (now log) at ⌝ }
     requires { ⌜ Stands (now log) at ⌝ }
@@ -204,11 +217,14 @@ fn clashes_by_cell(log: &[u8], at: usize, t: u64, x: u16, opens: &[u32; 32768]) 
     if x == 0 {
         return false;
     }
-    let v = opens[x as usize - 1];
+    let v = opens[(x as usize - 1) % 32767];
     if v == 0 {
         return false;
     }
     if is_of(log, t, v) {
+        return false;
+    }
+    if !may_be(log, v, x) {
         return false;
     }
     clashes_back(log, at, t, opens)
@@ -224,7 +240,7 @@ fn touch(
     lo: usize,
     hi: usize,
     space: &mut [u8],
-    opens: &[u32; 32768],
+    opens: &[u32; 32767],
 ) -> bool
     requires { ⌜ (kind ≡ said (now log) at .kind) × (isShaped (said (now log) at) ≡ true) × (lo ≤ hi) × (hi ≤ 4096) ⌝ }
     requires { ⌜ (t ≡ said (now log) at .txn) × (length (now space) ≡ 655360) ⌝ }
@@ -262,7 +278,7 @@ fn clash_in(
     requires { ⌜ Blank (now space) ⌝ }
     ensures { λ r. ⌜ FirstIn lo hi (now (log .entry)) limit r ⌝ }
 {
-    let mut opens = [0u32; 32768];
+    let mut opens = [0u32; 32767];
     let mut at = FIRST;
     while at < limit {
         let v = standing(log, at);
@@ -276,7 +292,7 @@ fn clash_in(
 }
 
 // Whether the entry at `at` clashes on a page that is none of the first n.
-fn touch_beyond(log: &[u8], at: usize, kind: u8, t: u64, n: usize, opens: &[u32; 32768]) -> bool
+fn touch_beyond(log: &[u8], at: usize, kind: u8, t: u64, n: usize, opens: &[u32; 32767]) -> bool
     requires { ⌜ (kind ≡ said (now log) at .kind) × (t ≡ said (now log) at .txn) × (isShaped (said (now log) at) ≡ true) ⌝ }
     requires { ⌜ Met (now log) at ⌝ }
     requires { ⌜ Stands (now log) at ⌝ }
@@ -301,7 +317,7 @@ fn clash_beyond(log: &[u8], limit: usize, n: usize) -> usize
     requires { ⌜ Shaped (now log) limit ⌝ }
     ensures { λ r. ⌜ FirstIn n (2 ^ 64) (now (log .entry)) limit r ⌝ }
 {
-    let mut opens = [0u32; 32768];
+    let mut opens = [0u32; 32767];
     let mut at = FIRST;
     while at < limit {
         let v = standing(log, at);

@@ -9,8 +9,8 @@ use Rattle.clash.proofs.inner.is_open.Statement.{statement}
 use Rattle.clash.proofs.inner.is_open.Tie as tie
 
 -- what is kept for the remainder
-kept : (c : tie.Start) → Open (c .args .log .now) (c .args .at) (c .args .u % 32768) (getD (c .args .opens .now) (c .args .u % 32768) 0)
-kept c = c .pre .1 .1 .tell (c .args .u % 32768) (omega arith)
+kept : (c : tie.Start) → Open (c .args .log .now) (c .args .at) (c .args .u % 32767) (getD (c .args .opens .now) (c .args .u % 32767) 0)
+kept c = c .pre .1 .1 .tell (c .args .u % 32767) (omega arith)
 
 returns : tie.Need-returns
 returns c = ap (λ (x : ℕ). eqb x 1) (c .look-back .ensures)
