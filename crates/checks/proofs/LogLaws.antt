@@ -44,6 +44,10 @@ told-other : (n : ℕ) → (n ≡ 0 → ⊥) → told n 0 ≡ verdict n 0
 told-other zero h = absurd (h refl)
 told-other (suc n) h = rw (eqb·suc-zero n)
 
+-- a walk that finds no fault comes by all entries
+pub before-all : {full : ℕ → Bool} {s : List ℕ} {w : Walked} → FirstWalk full s w → w .number ≡ 0 → before s (w .place) ≡ entries s
+before-all {full} {s} f z = ap (before s) (f .ends z) ∙ before-end s
+
 module _ (full : ℕ → Bool) (s : List ℕ) (n : ℕ) where
   -- refused by its header
   pub judged-header : (starts lasts : List ℕ) (x : ℕ) → (x ≡ 0 → ⊥) → x ≡ headerFault s → Judged full s n starts lasts (record { number = x; place = 0; last = record { 0 = 0 } })
@@ -85,10 +89,7 @@ module _ (full : ℕ → Bool) (s : List ℕ) (n : ℕ) where
         record {
           verdict = sym (log-is ∙ rw (le-ltb r (w .place) h));
           end = f .ends;
-          last = λ z. f .last ∙ ap lastLsn (all z);
-          begin = λ z. subst (λ (es : List _). Starts es n starts) (all z) b;
+          last = λ z. f .last ∙ ap lastLsn (before-all f z);
+          begin = λ z. subst (λ (es : List _). Starts es n starts) (before-all f z) b;
           touched = λ z. subst (λ (p : ℕ). Lasts s p n lasts) (f .ends z) l;
         }
-      where
-        all : w .number ≡ 0 → before s (w .place) ≡ entries s
-        all z = ap (before s) (f .ends z) ∙ before-end s
