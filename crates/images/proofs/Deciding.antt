@@ -13,7 +13,7 @@ use Rattle.wal.specs.Walk.{entries}
 use Rattle.wal.specs.Prefix.{Stands, said}
 use Rattle.wal.proofs.Prefix.{met-from, met-end, before-end}
 use Rattle.page.specs.Layout.{bodyBytes, countOf, slotAt}
-use Rattle.page.specs.Packed.{tab, roomFor}
+use Rattle.page.specs.Packed.{roomFor}
 use Rattle.page.proofs.Tables.{length-tab}
 use Rattle.rules.specs.Shape.{isChange, isShaped, beforeOf, afterOf}
 use Rattle.rules.specs.Mend.{committed, topOf, decided, slotsFor}
