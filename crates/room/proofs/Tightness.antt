@@ -15,6 +15,7 @@ use Rattle.page.specs.Layout.{bodyBytes, pageAt}
 use Rattle.page.specs.Packed.{roomFor}
 use Rattle.page.specs.Fault.{verdict, accepted}
 use Rattle.page.specs.declared.Verdict.{Verdict}
+use Rattle.page.proofs.Verdicts.{page-part}
 use Rattle.rules.specs.Mend.{committed, topOf, slotsFor}
 use Rattle.rules.specs.Recover.{isTight, tightFrom}
 use Rattle.images.specs.Page.{Sound, Touched}
@@ -26,11 +27,8 @@ use Rattle.images.proofs.Deciding.{top-fits}
 abbrev lentAt : ℕ → List ℕ → List ℕ
 lentAt i pages = take (i * 16384 + 16384 - i * 16384) (drop (i * 16384) pages)
 
-lent-is : (i : ℕ) (pages : List ℕ) → lentAt i pages ≡ pageAt i pages
-lent-is i pages = let z : i * 16384 + 16384 - i * 16384 ≡ 16384 = omega arith in rw z
-
 pub sound-lent : (i : ℕ) (pages : List ℕ) → Sound (pageAt i pages) → Sound (lentAt i pages)
-sound-lent i pages h = rw (lent-is i pages) h
+sound-lent i pages h = rw (page-part pages i) h
 
 module _ (es : List Entry) (pages : List ℕ) (i : ℕ) where
   pub untouched : topOf i es ≡ 0 → false ≡ isTight es pages i
@@ -39,7 +37,7 @@ module _ (es : List Entry) (pages : List ℕ) (i : ℕ) where
 
   pub measured : {r : ℕ} → 0 < topOf i es → r ≡ roomFor (slotsFor (committed es) es i (lentAt i pages)) → ltb bodyBytes r ≡ isTight es pages i
   unfolding isTight
-  measured h e = rw (lt-ltb 0 (topOf i es) h, e, lent-is i pages)
+  measured h e = rw (lt-ltb 0 (topOf i es) h, e, page-part pages i)
 
   -- the slots alone do not fit
   pub crowded : 4080 < topOf i es → true ≡ isTight es pages i
