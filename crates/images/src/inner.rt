@@ -117,12 +117,20 @@ pub fn kept_image(page: &[u8], k: usize) -> Image
     in_page(HEAD_BYTES + slot_off(page, k), slot_len(page, k))
 }
 
+// How far b is above a.
+fn above(a: u32, b: u32) -> usize
+    requires { ⌜ a ≤ b ⌝ }
+    ensures { λ r. ⌜ r ≡ b - a ⌝ }
+{
+    (b - a) as usize
+}
+
 // One more than the highest touched slot of page i, by the starts of the pages.
 pub fn top_of(starts: &[u32; 4097], i: usize) -> usize
     requires { ⌜ (i < 4096) × (getD (now starts) i 0 ≤ getD (now starts) (i + 1) 0) ⌝ }
     ensures { λ r. ⌜ r ≡ getD (now (starts .entry)) (i + 1) 0 - getD (now (starts .entry)) i 0 ⌝ }
 {
-    (starts[i + 1] - starts[i]) as usize
+    above(starts[i], starts[i + 1])
 }
 
 // How many slots page i is to have.

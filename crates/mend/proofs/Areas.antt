@@ -1,55 +1,41 @@
 -- A page area that is mended page by page from its front on.
 -- Assumes nothing.
-use mathlib.Core.Path.{_≡_, sym, ap, ap₂, _∙_}
+use mathlib.Core.Path.{_≡_, refl, sym, ap, ap₂, _∙_}
 use mathlib.Core.Bool.{Bool, true, false}
-use Prim.Native.Nat.{ℕ, zero, suc, _+_, _-_, _*_, _≤_}
-use native.Mathlib.Nat.{zero-add, add-zero, suc-add}
+use Prim.Native.Nat.{ℕ, zero, suc, _+_, _*_, _≤_, _<_}
+use native.Mathlib.Nat.{zero-add, add-zero}
+use native.Mathlib.Numerals.{add-one}
 use native.Mathlib.Omega.{arith}
 use mathlib.Core.List.{List, [], _++_, append-assoc, append-nil}
-use lib.ListN.{length, take, drop, length-append, take-append-drop}
-use lib.Seq.{paste, take-at, drop-at, drop-drop}
+use lib.ListN.{length, take, drop, length-append, take-append-drop, drop-of-length-le}
+use lib.Seq.{paste, drop-at, drop-drop}
 use Rattle.wal.specs.Entry.{Entry}
+use Rattle.wal.specs.Walk.{entries}
 use Rattle.page.specs.Layout.{pageBytes, pageAt}
 use Rattle.page.proofs.Writing.{paste-at}
 use Rattle.page.proofs.Verdicts.{page-length}
 use Rattle.rules.specs.Order.{one}
-use Rattle.rules.specs.Mend.{mend}
+use Rattle.rules.specs.Mend.{committed, mend}
 use Rattle.rules.specs.Recover.{isTouched, mendedFrom, touchedFrom}
+use Rattle.rules.proofs.Mended as mended
+use Rattle.images.specs.Page.{Touched, Fitting}
 
--- ---- one page after the other
+-- ---- n pages from i on, and one page more
 
-module _ (es : List Entry) (d : List ℕ) where
-  pub mended-append : (m n i : ℕ) → mendedFrom es d (m + n) i ≡ mendedFrom es d m i ++ mendedFrom es d n (i + m)
-  unfolding mendedFrom
-  mended-append zero n i = rw (zero-add n, add-zero i)
-  mended-append (suc m) n i =
-      let e : suc i + m ≡ i + suc m = omega arith in
-      rw (suc-add m n)
-      (ap (_++_ (mend es i (pageAt i d))) (mended-append m n (suc i) ∙ ap (λ (k : ℕ). mendedFrom es d m (suc i) ++ mendedFrom es d n k) e)
-      ∙ sym (append-assoc (mend es i (pageAt i d)) (mendedFrom es d m (suc i)) (mendedFrom es d n (i + suc m))))
+mended-next : (es : List Entry) (d : List ℕ) (n i : ℕ) → mendedFrom es d (suc n) i ≡ mendedFrom es d n i ++ mend es (i + n) (pageAt (i + n) d)
+unfolding mendedFrom
+mended-next es d zero i = rw (add-zero i) (append-nil (mend es i (pageAt i d)))
+mended-next es d (suc n) i =
+    let e : suc i + n ≡ i + suc n = omega arith in
+    ap (_++_ (mend es i (pageAt i d))) (mended-next es d n (suc i) ∙ ap (λ (k : ℕ). mendedFrom es d n (suc i) ++ mend es k (pageAt k d)) e)
+    ∙ sym (append-assoc (mend es i (pageAt i d)) (mendedFrom es d n (suc i)) (mend es (i + suc n) (pageAt (i + suc n) d)))
 
-  -- page i of those from lo on is the next
-  pub mended-next : (lo i : ℕ) → lo ≤ i → mendedFrom es d (i + 1 - lo) lo ≡ mendedFrom es d (i - lo) lo ++ mend es i (pageAt i d)
-  unfolding mendedFrom
-  mended-next lo i h =
-      let e : i + 1 - lo ≡ i - lo + 1 = omega arith in
-      let k : lo + (i - lo) ≡ i = omega arith in
-      ap (λ (n : ℕ). mendedFrom es d n lo) e ∙ mended-append (i - lo) 1 lo
-      ∙ ap (λ (j : ℕ). mendedFrom es d (i - lo) lo ++ (mend es j (pageAt j d) ++ [])) k ∙ ap (_++_ (mendedFrom es d (i - lo) lo)) (append-nil (mend es i (pageAt i d)))
-
-pub touched-append : (es : List Entry) (m n i : ℕ) → touchedFrom es (m + n) i ≡ touchedFrom es m i + touchedFrom es n (i + m)
+touched-next : (es : List Entry) (n i : ℕ) → touchedFrom es (suc n) i ≡ touchedFrom es n i + one (isTouched es (i + n))
 unfolding touchedFrom
-touched-append es zero n i = rw (zero-add n, add-zero i) (sym (zero-add (touchedFrom es n i)))
-touched-append es (suc m) n i =
-    let e : suc i + m ≡ i + suc m = omega arith in
-    rw (suc-add m n) (omega (arith, touched-append es m n (suc i), ap (touchedFrom es n) e))
-
-pub touched-next : (es : List Entry) (lo i : ℕ) → lo ≤ i → touchedFrom es (i + 1 - lo) lo ≡ touchedFrom es (i - lo) lo + one (isTouched es i)
-unfolding touchedFrom
-touched-next es lo i h =
-    let e : i + 1 - lo ≡ i - lo + 1 = omega arith in
-    let k : lo + (i - lo) ≡ i = omega arith in
-    ap (λ (n : ℕ). touchedFrom es n lo) e ∙ touched-append es (i - lo) 1 lo ∙ ap (λ (j : ℕ). touchedFrom es (i - lo) lo + (one (isTouched es j) + 0)) k ∙ omega arith
+touched-next es zero i = rw (add-zero i) (omega arith)
+touched-next es (suc n) i =
+    let e : suc i + n ≡ i + suc n = omega arith in
+    omega (arith, touched-next es n (suc i), ap (λ (k : ℕ). one (isTouched es k)) e)
 
 pub one-le : (b : Bool) → one b ≤ 1
 one-le true = omega arith
@@ -68,22 +54,11 @@ pub record Fronted (d : List ℕ) (i : ℕ) (p w : List ℕ) : Type 0 where
   pub is : w ≡ p ++ drop (i * pageBytes) d
 
 module _ {d : List ℕ} {i : ℕ} {p w : List ℕ} (f : Fronted d i p w) where
-  pub front : take (i * pageBytes) w ≡ p
-  front = ap (take (i * pageBytes)) (f .is) ∙ take-at p (drop (i * pageBytes) d) (i * pageBytes) (f .long)
-
-  pub behind : (j : ℕ) → i ≤ j → drop (j * pageBytes) w ≡ drop (j * pageBytes) d
-  behind j h =
-      let e : j * pageBytes ≡ i * pageBytes + (j - i) * pageBytes = omega arith in
-      rw e
-      (sym (drop-drop ((j - i) * pageBytes) (i * pageBytes) w)
-      ∙ ap (drop ((j - i) * pageBytes)) (ap (drop (i * pageBytes)) (f .is) ∙ drop-at p (drop (i * pageBytes) d) (i * pageBytes) (f .long))
-      ∙ drop-drop ((j - i) * pageBytes) (i * pageBytes) d)
-
-  pub page-behind : (j : ℕ) → i ≤ j → pageAt j w ≡ pageAt j d
-  page-behind j h = ap (take pageBytes) (behind j h)
+  page-behind : pageAt i w ≡ pageAt i d
+  page-behind = ap (take pageBytes) (ap (drop (i * pageBytes)) (f .is) ∙ drop-at p (drop (i * pageBytes) d) (i * pageBytes) (f .long))
 
   -- one page more
-  pub front-page : (m v : List ℕ) → i * pageBytes + pageBytes ≤ length d → length m ≡ pageBytes → v ≡ paste w (i * pageBytes) m pageBytes → Fronted d (i + 1) (p ++ m) v
+  front-page : (m v : List ℕ) → i * pageBytes + pageBytes ≤ length d → length m ≡ pageBytes → v ≡ paste w (i * pageBytes) m pageBytes → Fronted d (i + 1) (p ++ m) v
   front-page m v r l e =
       let a : ℕ = i * pageBytes in
       let z : (i + 1) * pageBytes ≡ a + pageBytes = omega arith in
@@ -96,10 +71,39 @@ module _ {d : List ℕ} {i : ℕ} {p w : List ℕ} (f : Fronted d i p w) where
             ∙ rw z (sym (append-assoc p m (drop (a + pageBytes) d)));
       }
 
-  -- some pages more
-  pub front-pages : (m v : List ℕ) (j : ℕ) → i ≤ j → length m ≡ (j - i) * pageBytes → v ≡ take (i * pageBytes) w ++ (m ++ drop (j * pageBytes) w) → Fronted d j (p ++ m) v
-  front-pages m v j h l e =
-      record {
-        long = omega (arith, length-append p m, f .long);
-        is = e ∙ ap₂ (λ (a b : List ℕ). a ++ (m ++ b)) front (behind j h) ∙ sym (append-assoc p m (drop (j * pageBytes) d));
-      }
+-- ---- the first i pages of d are mended in w, and r of them were rewritten
+
+pub record Mended (s d : List ℕ) (i : ℕ) (w : List ℕ) (r : ℕ) : Type 0 where
+  pub fronted : Fronted d i (mendedFrom (entries s) d i 0) w
+  pub counted : r ≡ touchedFrom (entries s) i 0
+
+pub mended-none : (s d : List ℕ) → Mended s d 0 d 0
+unfolding mendedFrom touchedFrom
+mended-none s d = record { fronted = record { long = refl; is = refl }; counted = refl }
+
+module _ {s d : List ℕ} {i : ℕ} {w : List ℕ} {r : ℕ} (m : Mended s d i w r) {n : ℕ} where
+  -- page i is as it was
+  module _ (h : i < n) where
+    pub next-touched : Touched s d 0 n → Touched s w i (i + 1)
+    next-touched t = record { at = λ j low high k. let z : j ≡ i = omega arith in rw (z, page-behind (m .fronted)) (t .at i (omega arith) h (rw z at k)) }
+
+    pub next-fitting : Fitting s d 0 n → Fitting s w i (i + 1)
+    next-fitting f = record { at = λ j low high k. let z : j ≡ i = omega arith in rw (z, page-behind (m .fronted)) (f .at i (omega arith) h (rw z at k)) }
+
+    pub mended-page : Fitting s d 0 n → n * pageBytes ≤ length d → {v : List ℕ} {x : ℕ} → v ≡ paste w (i * pageBytes) (mend (entries s) i (pageAt i w)) pageBytes
+        → x ≡ one (isTouched (entries s) i) → Mended s d (i + 1) v (r + x)
+    unfolding mend
+    mended-page f room {v} {x} ev ex =
+        let es = entries s in
+        let long : length (mend es i (pageAt i d)) ≡ pageBytes = mended.length-mended (committed es) es i (pageAt i d) (page-length d i (omega arith)) (f .at i (omega arith) h) in
+        let z : 0 + i ≡ i = zero-add i in
+        let e : mendedFrom es d (i + 1) 0 ≡ mendedFrom es d i 0 ++ mend es i (pageAt i d) = rw (add-one i) (rw z at (mended-next es d i 0)) in
+        record {
+          fronted = rw e (front-page (m .fronted) (mend es i (pageAt i d)) v (omega arith) long (rw (page-behind (m .fronted)) at ev));
+          counted = ap₂ _+_ (m .counted) ex ∙ sym (rw (add-one i) (rw z at (touched-next es i 0)));
+        }
+
+  pub mended-all : i ≡ n → length d ≡ n * pageBytes → (w ≡ mendedFrom (entries s) d n 0) × (r ≡ touchedFrom (entries s) n 0)
+  mended-all e l =
+      let none : drop (i * pageBytes) d ≡ [] = drop-of-length-le d {i = i * pageBytes} (omega arith) in
+      rw (← e) (m .fronted .is ∙ ap (_++_ (mendedFrom (entries s) d i 0)) none ∙ append-nil (mendedFrom (entries s) d i 0), m .counted)

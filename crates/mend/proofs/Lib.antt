@@ -4,4 +4,3 @@ pub mod Filling
 pub mod Heads
 pub mod Pages
 pub mod Areas
-pub mod Groups

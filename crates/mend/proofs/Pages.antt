@@ -1,6 +1,6 @@
 -- One page mended: as it was where it is untouched, else repacked.
 -- Assumes nothing.
-use mathlib.Core.Path.{_≡_, refl, sym}
+use mathlib.Core.Path.{_≡_, refl, sym, ap, _∙_}
 use Prim.Native.Nat.{ℕ, zero, suc, _+_, _-_, _*_, _<_}
 use native.Mathlib.Omega.{arith}
 use mathlib.Core.List.{List, append-assoc}
@@ -8,13 +8,14 @@ use lib.ListN.{take, drop, getD, take-append-drop}
 use lib.Seq.{paste, take-take, drop-drop}
 use borrow.Author.Tests.{lt-ltb, le-ltb}
 use Rattle.wal.specs.Entry.{Entry}
-use Rattle.wal.specs.Walk.{entries}
+use Rattle.wal.specs.Walk.{entries, endOf}
+use Rattle.wal.proofs.Prefix.{before-end}
 use Rattle.page.specs.Layout.{pageBytes, pageAt}
+use Rattle.page.proofs.Verdicts.{page-part}
 use Rattle.rules.specs.Order.{one}
 use Rattle.rules.specs.Mend.{committed, topOf, repacked, unless, mendBy, mend}
 use Rattle.rules.specs.Recover.{isTouched}
-use Rattle.images.specs.Page.{PageCells}
-use Rattle.images.proofs.Deciding.{next-start}
+use Rattle.cells.specs.Measure.{LastAt, Lasts}
 
 -- a part, stored where it stands
 paste-own : (d : List ℕ) (a n : ℕ) → paste d a (take n (drop a d)) n ≡ d
@@ -39,17 +40,18 @@ module _ (es : List Entry) (i : ℕ) where
     paste-untouched d = rw (mend-untouched (pageAt i d)) (sym (paste-own d (i * pageBytes) pageBytes))
 
   module _ (h : 0 < topOf i es) where
-    pub mend-touched : (p : List ℕ) → repacked (committed es) es i p ≡ mend es i p
+    mend-touched : (p : List ℕ) → repacked (committed es) es i p ≡ mend es i p
     unfolding mend mendBy
     mend-touched p = sym (unless-touched (topOf i es) p (repacked (committed es) es i p) h)
+
+    -- stored where the page stood, as code lends it
+    pub paste-touched : (d : List ℕ) {v w : List ℕ} → v ≡ paste d (i * pageBytes) w pageBytes
+        → w ≡ repacked (committed es) es i (take (i * pageBytes + pageBytes - i * pageBytes) (drop (i * pageBytes) d)) → v ≡ paste d (i * pageBytes) (mend es i (pageAt i d)) pageBytes
+    paste-touched d e f = e ∙ ap (λ (u : List ℕ). paste d (i * pageBytes) u pageBytes) (f ∙ ap (repacked (committed es) es i) (page-part d i) ∙ mend-touched (pageAt i d))
 
     pub one-touched : 1 ≡ one (isTouched es i)
     one-touched = rw (lt-ltb 0 (topOf i es) h)
 
--- whether the page is touched, as code tests it
-module _ {s : List ℕ} {lo i : ℕ} {starts cells : List ℕ} (k : PageCells s lo i starts cells) where
-  pub no-cells : getD starts i 0 ≡ getD starts (i + 1) 0 → topOf i (entries s) ≡ 0
-  no-cells e = omega (arith, next-start k)
-
-  pub some-cells : (getD starts i 0 ≡ getD starts (i + 1) 0 → ⊥) → 0 < topOf i (entries s)
-  some-cells e = omega (arith, next-start k)
+-- the place of the last change on a touched page
+pub last-known : {s : List ℕ} {n : ℕ} {lasts : List ℕ} → Lasts s (endOf s) n lasts → {i : ℕ} → i < n → 0 < topOf i (entries s) → LastAt s (endOf s) i (getD lasts i 0)
+last-known {s} l {i} h t = l .some i h (rw (before-end s) t)

@@ -1,8 +1,7 @@
 // What other crates call with a `requires`: mending all touched pages.
 ghost use mathlib.Core.Path.{_≡_};
 ghost use Prim.Native.Nat.{_+_, _-_, _*_, _≤_, _<_, max};
-ghost use mathlib.Core.List.{_++_};
-ghost use lib.ListN.{length, getD, take, drop, replicate};
+ghost use lib.ListN.{length, replicate};
 ghost use lib.Seq.{paste};
 ghost use Rattle.crc32c.specs.Tables.{Tables};
 ghost use Rattle.endian.specs.Numbers.{bytesOf, numberAt};

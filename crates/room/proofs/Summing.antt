@@ -5,7 +5,6 @@ use mathlib.Core.List.{List}
 use native.Mathlib.Numerals.{add-one}
 use native.Mathlib.Omega.{arith}
 use lib.ListN.{length, getD}
-use Rattle.endian.specs.Numbers.{Bytes}
 use Rattle.wal.specs.Walk.{entries}
 use Rattle.page.specs.Layout.{countOf, slotAt}
 use Rattle.page.specs.Packed.{tab, roomFor}
@@ -14,7 +13,7 @@ use Rattle.rules.specs.Mend.{committed, topOf, decided, slotsFor}
 use Rattle.images.specs.declared.Image.{Image}
 use Rattle.images.specs.Tuples.{Stood}
 use Rattle.images.specs.Page.{PageCells, Sound}
-use Rattle.images.proofs.Deciding.{slots-are, top-small}
+use Rattle.images.proofs.Deciding.{slots-are}
 use Rattle.images.proofs.Kept.{count-small}
 
 -- what slot k of page i, which is p, is to hold
@@ -42,9 +41,9 @@ module _ {s p : List ℕ} {i : ℕ} where
   summing-all e z h = h .is ∙ ap (λ (x : ℕ). roomFor (tab x (held s p i))) (z ∙ e)
 
 -- how many slots there are, as code finds it
-module _ {s starts cells : List ℕ} {i lo n : ℕ} (p : List ℕ) (d : PageCells s lo i starts cells) (e : n ≡ max (countOf p) (getD starts (i + 1) 0 - getD starts i 0)) where
+module _ {s starts cells : List ℕ} {i n : ℕ} (p : List ℕ) (d : PageCells s i starts cells) (e : n ≡ max (countOf p) (getD starts (i + 1) 0 - getD starts i 0)) where
   pub slots-is : n ≡ max (countOf p) (topOf i (entries s))
   slots-is = e ∙ slots-are d (countOf p)
 
-  pub slots-few : Bytes s → Sound p → n ≤ 65536
-  slots-few b g = omega (arith, slots-is, count-small g, top-small b i)
+  pub slots-few : Sound p → n ≤ 4080
+  slots-few g = omega (arith, slots-is, count-small g, d .fits)

@@ -3,55 +3,44 @@
 use Prim.Native.Nat.{_<_}
 use Rattle.wal.specs.Walk.{entries}
 use Rattle.rules.specs.Mend.{topOf}
-use Rattle.images.specs.Page.{PageCells}
-use Rattle.images.proofs.Deciding.{starts-rise, top-is, cell-asked, cell-small, change-named, slot-won, slot-left, slot-untouched}
+use Rattle.images.proofs.Deciding.{starts-rise, top-is, cell-small, change-named, slot-won, slot-left, slot-untouched}
 use native.Mathlib.Omega.{arith}
 use borrow.Author.Needs.{needs}
 use Rattle.images.proofs.inner.slot_image.Statement.{statement}
 use Rattle.images.proofs.inner.slot_image.Tie as tie
 
--- a touched slot, and its cell
-paged-cells : (c : tie.Else1) → PageCells (c .before .before .before .before .before .args .log .now) (c .before .before .before .before .before .args .lo) (c .before .before .before .before .before .args .i) (c .before .before .before .before .before .args .starts .now) (c .before .before .before .before .before .args .cells .now)
-paged-cells c = c .before .before .before .before .before .pre .1 .0
-
-touched : (c : tie.Else1) → c .before .before .before .before .before .args .k < topOf (c .before .before .before .before .before .args .i) (entries (c .before .before .before .before .before .args .log .now))
-touched c = omega (arith, top-is (paged-cells c) (c .before .top-of .ensures), c .if1 .left)
-
-found : (c : tie.After-cell-at) → c .cell-at .result < 163840
-found c = cell-small (paged-cells (c .before)) (touched (c .before)) (c .cell-at .ensures)
+-- a touched slot
+touched : (c : tie.Else1) → c .before .before .before .before .args .k < topOf (c .before .before .before .before .args .i) (entries (c .before .before .before .before .args .log .now))
+touched c = omega (arith, top-is (c .before .before .before .before .pre .1 .0) (c .before .top-of .ensures), c .if1 .left)
 
 top-of-requires : tie.Need-top-of-requires
-top-of-requires c κs = let p = c .before .before .before .pre in (omega (arith, c .top-of-arg .given .0, p .1 .0 .few), starts-rise (p .1 .0))
+top-of-requires c κs = let p = c .before .before .pre in (p .1 .0 .few, starts-rise (p .1 .0))
 
 returns : tie.Need-returns
 returns c =
     let d = c .before .before in
-    let p = d .before .before .before .before .pre in
+    let p = d .before .before .before .pre in
     slot-untouched (p .1 .0) (omega (arith, top-is (p .1 .0) (d .top-of .ensures), c .before .if1 .taken)) (c .kept-image .ensures)
 
-cell-at-requires : tie.Need-cell-at-requires
-cell-at-requires c κs = cell-asked (paged-cells c) (touched c)
-
 mul-c : tie.Need-mul-c
-mul-c c = omega (arith, found c)
+mul-c c = omega (arith, cell-small (c .before .before .before .before .pre .1 .0) (touched c))
 
 element-copy-out-c : tie.Need-element-copy-out-c
-element-copy-out-c c = found c
+element-copy-out-c c = cell-small (c .before .before .before .before .pre .1 .0) (touched c)
 
 returns-2 : tie.Need-returns-2
 returns-2 c =
     let d = c .before .before .before in
-    slot-left (paged-cells (d .before)) (touched (d .before)) (d .cell-at .ensures) (c .before .if2 .taken) (c .kept-image2 .ensures)
+    slot-left (d .before .before .before .before .pre .1 .0) (touched d) (c .before .if2 .taken) (c .kept-image2 .ensures)
 
 won-image-requires : tie.Need-won-image-requires
 won-image-requires c κs =
     let d = c .before .before in
-    (d .before .before .before .before .before .before .pre .0, change-named (paged-cells (d .before)) (touched (d .before)) (d .cell-at .ensures) (c .if2 .left))
+    let p = d .before .before .before .before .pre in
+    (p .0, change-named (p .1 .0) (touched d) (c .if2 .left))
 
 returns-3 : tie.Need-returns-3
-returns-3 c =
-    let d = c .before .before .before in
-    slot-won (paged-cells (d .before)) (touched (d .before)) (d .cell-at .ensures) (c .won-image .ensures)
+returns-3 c = let d = c .before .before .before in slot-won (d .before .before .before .before .pre .1 .0) (touched d) (c .won-image .ensures)
 
 pub slot-image-spec : {M : Type 1} → statement M
 slot-image-spec =
@@ -60,7 +49,6 @@ slot-image-spec =
     top-of-requires
     (λ c κs. search needs)
     returns
-    cell-at-requires
     mul-c
     element-copy-out-c
     (λ c κs. search needs)

@@ -8,10 +8,10 @@ use Rattle.mend.proofs.inner.fill.Statement.{statement}
 use Rattle.mend.proofs.inner.fill.Tie as tie
 
 abbrev Inv-loop : tie.InvT-loop
-Inv-loop work₀ log page starts lo i cells n top₀ k₀ work top k = (k ≤ n) × (length work ≡ length work₀) × Packing work k top (wanted log i page)
+Inv-loop work₀ log page starts i cells n top₀ k₀ work top k = (k ≤ n) × (length work ≡ length work₀) × Packing work k top (wanted log i page)
 
 abbrev μ-loop : tie.MeasureT-loop
-μ-loop work₀ log page starts lo i cells n top₀ k₀ work top k = n - k
+μ-loop work₀ log page starts i cells n top₀ k₀ work top k = n - k
 
 loop-holds : tie.Need-loop-holds Inv-loop μ-loop
 loop-holds c = (omega arith, refl, rw (c .before .before .before .pre .0) (packing-none _))

@@ -3,7 +3,7 @@ use Prim.Native.Nat.{ℕ}
 use native.Mathlib.Omega.{arith}
 use lib.ListN.{length, length-take, length-drop, length-replicate}
 use borrow.Author.Needs.{needs}
-use Rattle.images.proofs.Deciding.{next-start, slots-are}
+use Rattle.images.proofs.Deciding.{starts-rise, slots-are}
 use Rattle.mend.proofs.Filling.{wanted-few}
 use Rattle.mend.proofs.Heads.{repacked-is}
 use Rattle.mend.proofs.inner.repack.Statement.{statement}
@@ -12,7 +12,7 @@ use Rattle.mend.proofs.inner.repack.Tie as tie
 slots-for-requires : tie.Need-slots-for-requires
 slots-for-requires c κs =
     let p = c .before .before .before .pre .1 .1 .1 in
-    (p .1 .0 .size, p .0 .few, omega (arith, next-start (p .0)))
+    (p .1 .0 .size, p .0 .few, starts-rise (p .0))
 
 fill-requires : tie.Need-fill-requires
 fill-requires c κs =

@@ -3,17 +3,16 @@
 use Prim.Native.Nat.{_-_, _≤_}
 use native.Mathlib.Omega.{arith}
 use borrow.Author.Needs.{needs}
-use Rattle.endian.specs.Numbers.{Bytes}
 use Rattle.images.proofs.Deciding.{starts-rise}
 use Rattle.room.proofs.Summing.{Summing, summing-none, summing-next, summing-all, slots-is, slots-few}
 use Rattle.room.proofs.inner.room.Statement.{statement}
 use Rattle.room.proofs.inner.room.Tie as tie
 
 abbrev Inv-loop : tie.InvT-loop
-Inv-loop log page starts lo i cells n sum₀ k₀ sum k = (k ≤ n) × (n ≤ 65536) × Summing log page i k sum
+Inv-loop log page starts i cells n sum₀ k₀ sum k = (k ≤ n) × (n ≤ 4080) × Summing log page i k sum
 
 abbrev μ-loop : tie.MeasureT-loop
-μ-loop log page starts lo i cells n sum₀ k₀ sum k = n - k
+μ-loop log page starts i cells n sum₀ k₀ sum k = n - k
 
 slots-for-requires : tie.Need-slots-for-requires Inv-loop μ-loop
 slots-for-requires c κs = let p = c .before .before .pre in (p .1 .1 .size, p .1 .0 .few, starts-rise (p .1 .0))
@@ -21,8 +20,7 @@ slots-for-requires c κs = let p = c .before .before .pre in (p .1 .1 .size, p .
 loop-holds : tie.Need-loop-holds Inv-loop μ-loop
 loop-holds c =
     let p = c .before .before .before .pre in
-    let b : Bytes (c .before .before .before .args .log .now) = record { at = λ i. omega (arith, c .before .before .shared-slice-known .given i) } in
-    (omega arith, slots-few _ (p .1 .0) (c .slots-for .ensures) b (p .1 .1), summing-none)
+    (omega arith, slots-few _ (p .1 .0) (c .slots-for .ensures) (p .1 .1), summing-none)
 
 slot-image-requires : tie.Need-slot-image-requires Inv-loop μ-loop
 slot-image-requires c κs = c .before .before .before .before .before .pre
