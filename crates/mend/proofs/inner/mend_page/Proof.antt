@@ -42,7 +42,7 @@ decide-requires c κs =
     let p = b .before .before .before .before .pre in
     let q = p .1 .1 .1 .1 .1 .1 .1 .1 in
     let t = top (b .before) in
-    (p .1 .0, (p .1 .1 .1 .1 .0, (p .1 .1 .1 .1 .1 .0, ((q .0, q .1, t, omega (arith, t, fits b), q .2), ?))))
+    (p .1 .0, (p .1 .1 .1 .1 .0, (p .1 .1 .1 .1 .1 .0, (q .0, q .1, t, omega (arith, t, fits b), q .2))))
 
 cast-last : tie.Need-cast-last
 cast-last c =

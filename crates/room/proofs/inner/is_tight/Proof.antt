@@ -32,7 +32,7 @@ decide-requires c κs =
     let t = c .before .before .before in
     let p = t .before .before .before .pre in
     let q = p .1 .1 .1 .1 .1 in
-    (p .0, (p .1 .1 .0, (p .1 .1 .1 .0, ((q .0, q .2, top t, omega (arith, c .before .if2 .left), q .3), ?))))
+    (p .0, (p .1 .1 .0, (p .1 .1 .1 .0, (q .0, q .2, top t, omega (arith, c .before .if2 .left), q .3))))
 
 room-requires : tie.Need-room-requires
 room-requires c κs =
