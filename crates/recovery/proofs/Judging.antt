@@ -26,7 +26,8 @@ use Rattle.cells.specs.Measure.{Sound as Rises}
 use Rattle.cells.proofs.Soundness.{Rising, sound-of}
 use Rattle.checks.specs.Judged.{Judged}
 use Rattle.images.specs.Page.{Sound, Touched}
-use Rattle.recovery.specs.Judgement.{Judgement}
+use Rattle.recovery.specs.Judgement.{Judgement, Gathered}
+use Rattle.recovery.specs.declared.Judged.{Judged as JudgedLog}
 use Rattle.recovery.proofs.JudgeLaws.{told-refused, judge-log}
 
 -- ---- what an accepted log is
@@ -63,6 +64,10 @@ touched-ok magic floor last pages log n e p s =
 
 pub log-ok : {full : ℕ → Bool} {log : List ℕ} {n : ℕ} {starts lasts : List ℕ} {w : Walked} → Judged full log n starts lasts w → w .number ≡ 0 → logVerdict full log .number ≡ 0
 log-ok {full} {log} {n} {starts} {lasts} {w} j z = sym (ap (λ (v : Verdict). v .number) (j .verdict)) ∙ rw (eq-eqb (w .number) 0 z)
+
+-- refused, nothing is listed or counted
+pub gathered-none : {pages log lists fronts space : List ℕ} {r : JudgedLog} → (r .walked .number ≡ 0 → ⊥) → Gathered pages log lists fronts space r
+gathered-none h = record { begin = λ z. absurd (h z); listed = λ z. absurd (h z); counts = λ z. absurd (h z) }
 
 module _ (full : ℕ → Bool) (magic floor : ℕ) (pages log starts lasts : List ℕ) where
   pub judged-refused : (n at : ℕ) → (n ≡ 0 → ⊥) → verdict n at ≡ recoverVerdict full magic floor pages log

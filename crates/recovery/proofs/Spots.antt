@@ -1,14 +1,15 @@
 -- Where a row's tuple stands, in the log or in the page area. Assumes nothing.
-use Prim.Native.Nat.{ℕ, suc, _+_, _-_, _*_, _≤_, _<_}
+use Prim.Native.Nat.{ℕ, _+_, _*_, _≤_, _<_}
 use mathlib.Core.Path.{_≡_, refl, sym, ap, _∙_}
 use mathlib.Core.Bool.{Bool, true, false}
 use mathlib.Core.Logic.{_⊎_, inl, inr}
 use mathlib.Core.List.{List, []}
+use native.Mathlib.Decide.{decLt}
 use native.Mathlib.Omega.{arith}
 use lib.ListN.{length, drop}
 use borrow.Author.Tests.{eq-eqb, ne-eqb, le-leb, lt-leb}
 use Rattle.rules.proofs.Tests.{false-true}
-use Rattle.endian.specs.Numbers.{part, Bytes}
+use Rattle.endian.specs.Numbers.{part}
 use Rattle.endian.specs.declared.TxnNumber.{TxnNumber}
 use Rattle.endian.proofs.Places.{part-take, part-drop}
 use Rattle.wal.specs.Read.{first}
@@ -27,12 +28,10 @@ use Rattle.rules.proofs.Accepted.{slot-good}
 use Rattle.rules.proofs.ImageLaws.{tuple-images}
 use Rattle.rules.proofs.OrderLaws.{in-turn}
 use Rattle.fates.specs.Fate.{Ordered}
-use Rattle.cells.specs.Cell.{startOf}
-use Rattle.cells.proofs.CellLaws.{start-next}
-use Rattle.images.proofs.Deciding.{top-small}
 use Rattle.images.specs.declared.Image.{Image}
 use Rattle.images.specs.Tuples.{Lies, Stood, tupleIn, paged}
-use Rattle.images.specs.Page.{Sound}
+use Rattle.images.specs.Page.{Sound, Fitting}
+use Rattle.images.proofs.Deciding.{top-fits}
 use Rattle.recovery.specs.Spot.{shiftedBy, nowhereBy, Spotted}
 use Rattle.recovery.proofs.JudgeLaws.{then-refused, then-accepted}
 
@@ -126,12 +125,13 @@ module _ (magic floor : ℕ) (pages log : List ℕ) (i k : ℕ) where
       from (inl z) = inl (h .long ∙ ap (λ (l : List ℕ). length l) z)
       from (inr z) = inr (omega (arith, h .long, z .0))
 
--- ---- one page is a group
-pub one-fits : {s : List ℕ} → Bytes s → (i : ℕ) → startOf (entries s) (i + 1) - startOf (entries s) i ≤ 163840
-one-fits {s} b i =
-    let e : suc i ≡ i + 1 = omega arith in
-    let n : startOf (entries s) (i + 1) ≡ startOf (entries s) i + topOf i (entries s) = rw e at (start-next (entries s) i) in
-    omega (arith, n, top-small b i)
+-- a page that is accepted has at most 4,080 slots
+pub top-few : {log pages : List ℕ} {n : ℕ} (i : ℕ) → Fitting log pages 0 n → i < n → topOf i (entries log) ≤ 4080
+top-few {log} {pages} i f l =
+    elim (decLt 0 (topOf i (entries log))) [
+      | yes h ↦ top-fits (committed (entries log)) (entries log) i (pageAt i pages) (f .at i (omega arith) l h)
+      | no h ↦ omega arith
+    ]
 
 -- where an image of a page ends
 pub place-small : {s p : List ℕ} {m : Image} {t : List ℕ} → length s ≤ 16777216 → length p ≡ pageBytes → Stood s p m t → m .place ≤ 16777216

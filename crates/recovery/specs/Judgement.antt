@@ -11,11 +11,13 @@ use Rattle.rules.specs.declared.Answer.{Answer}
 use Rattle.endian.specs.declared.Lsn.{Lsn}
 use Rattle.order.specs.First.{told}
 use Rattle.order.specs.declared.Walked.{Walked}
+use Rattle.tally.specs.Counts.{tallyOf}
 use Rattle.tally.specs.declared.Tally.{Tally}
 use Rattle.cells.specs.Cell.{Starts}
 use Rattle.cells.specs.Listing.{Lists}
 use Rattle.cells.specs.Measure.{Lasts}
 use Rattle.decide.specs.Lists.{Listed}
+use Rattle.recovery.specs.declared.Judged.{Judged}
 
 -- the verdict; accepted, where the log ends and its last LSN, where the cells of pages start, and the places of the last changes on them
 pub record Judgement (full : ℕ → Bool) (magic floor : ℕ) (pages log starts lasts : List ℕ) (w : Walked) : Type 0 where
@@ -25,10 +27,11 @@ pub record Judgement (full : ℕ → Bool) (magic floor : ℕ) (pages log starts
   pub begin : w .number ≡ 0 → Starts (entries log) (pagesIn pages) starts
   pub touched : w .number ≡ 0 → Lasts log (endOf log) (pagesIn pages) lasts
 
--- accepted, the changes on each page are listed
-pub record Gathered (pages log lists fronts space : List ℕ) (w : Walked) : Type 0 where
-  pub lists : w .number ≡ 0 → Lists (entries log) (pagesIn pages) lists
-  pub listed : w .number ≡ 0 → Listed log (pagesIn pages) fronts space
+-- accepted, the changes on each page are listed, and the entries are counted
+pub record Gathered (pages log lists fronts space : List ℕ) (r : Judged) : Type 0 where
+  pub begin : r .walked .number ≡ 0 → Lists (entries log) (pagesIn pages) lists
+  pub listed : r .walked .number ≡ 0 → Listed log (pagesIn pages) fronts space
+  pub counts : r .walked .number ≡ 0 → r .tally ≡ tallyOf (entries log)
 
 -- the answer of a recovery that is done: last LSN, end of the log, counts, pages rewritten
 abbrev pub answerFrom : Lsn → ℕ → Tally → ℕ → Answer

@@ -5,7 +5,6 @@ ghost use Rattle.crc32c.specs.Tables.{Tables};
 ghost use Rattle.rules.specs.Order.{fullAt};
 ghost use Rattle.rules.specs.Recover.{recoverVerdict, recoverBy, refused};
 ghost use Rattle.page.specs.Fault.{verdict};
-ghost use Rattle.fates.specs.Fate.{Memo};
 ghost use Rattle.recovery.specs.Judgement.{answerFrom};
 use crate::judge::judge;
 use crc32c::inner::tables;
@@ -15,7 +14,6 @@ use order::Walked;
 use page::PAGE_BYTES;
 use rules::Answer;
 use tally::Tally;
-use tally::inner::tally;
 
 // The answer of a refusal.
 fn refused_by(number: u64, place: u64) -> Answer
@@ -57,7 +55,7 @@ fn done_by(last: Lsn, end: usize, c: Tally, rewritten: u64) -> Answer
     }
 }
 
-// Judges, and where nothing is refused counts and mends.
+// Judges, and where nothing is refused mends.
 fn run(
     t: &[u32; 2048],
     magic: u64,
@@ -70,14 +68,12 @@ fn run(
     lists: &mut [u32; 4097],
     fronts: &mut [u32; 4096],
     space: &mut [u8; 655360],
-    memo: &mut [u32; 16384],
 ) -> Answer
     requires { ⌜ Tables (now t) ⌝ }
-    requires { ⌜ Memo (now log) (now memo) ⌝ }
     ensures { λ r. ⌜ r ≡ recoverBy (recoverVerdict (fullAt records) magic (floor .0) (now (pages .entry)) (now (log .entry))) (now (pages .entry)) (now (log .entry)) [] .answer ⌝ }
     ensures { λ _. ⌜ now (pages .exit) ≡ recoverBy (recoverVerdict (fullAt records) magic (floor .0) (now (pages .entry)) (now (log .entry))) (now (pages .entry)) (now (log .entry)) [] .pages ⌝ }
 {
-    let w = judge(
+    let j = judge(
         t,
         magic,
         floor,
@@ -90,15 +86,14 @@ fn run(
         lists,
         fronts,
         space,
-        memo,
     );
+    let w = j.walked;
     if w.number != 0 {
         return refused_by(w.number, w.place as u64);
     }
-    let c = tally(log, w.place, memo);
     let n = pages.len() / PAGE_BYTES;
     let rewritten = mend_all(t, log, pages, n, starts, lasts, lists, fronts, space);
-    done_by(w.last, w.place, c, rewritten)
+    done_by(w.last, w.place, j.tally, rewritten)
 }
 
 // Recovery for a table of so many records, which is not written.
@@ -112,7 +107,6 @@ pub fn recover(magic: u64, floor: Lsn, pages: &mut [u8], log: &[u8], records: u6
     let mut lists = [0u32; 4097];
     let mut fronts = [0u32; 4096];
     let mut space = [0u8; 655360];
-    let mut memo = [0u32; 16384];
     run(
         &t,
         magic,
@@ -125,6 +119,5 @@ pub fn recover(magic: u64, floor: Lsn, pages: &mut [u8], log: &[u8], records: u6
         &mut lists,
         &mut fronts,
         &mut space,
-        &mut memo,
     )
 }

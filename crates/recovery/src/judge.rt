@@ -2,8 +2,8 @@
 ghost use mathlib.Core.Path.{_≡_};
 ghost use Rattle.crc32c.specs.Tables.{Tables};
 ghost use Rattle.order.specs.First.{fullOf};
-ghost use Rattle.fates.specs.Fate.{Memo};
 ghost use Rattle.recovery.specs.Judgement.{Judgement, Gathered};
+use crate::Judged;
 use checks::inner::judge_log;
 use checks::inner::judge_pages;
 use checks::inner::stray;
@@ -16,18 +16,39 @@ use refusals::NO_DATA_PAGE;
 use refusals::PAGE_AREA;
 use refusals::PAGE_OVERFULL;
 use room::inner::tight;
+use tally::Tally;
 
-fn refusal(number: u64, place: usize) -> Walked
-    ensures { λ r. ⌜ r ≡ record { number = number; place = place; last = record { 0 = 0 } } ⌝ }
+fn refusal(number: u64, place: usize) -> Judged
+    ensures { λ r. ⌜ r .walked ≡ record { number = number; place = place; last = record { 0 = 0 } } ⌝ }
 {
-    Walked {
+    let w = Walked {
         number: number,
         place: place,
         last: Lsn(0),
+    };
+    refused(w)
+}
+
+// Without counts.
+fn refused(w: Walked) -> Judged
+    ensures { λ r. ⌜ r .walked ≡ w ⌝ }
+{
+    let none = Tally {
+        committed: 0,
+        rolled_back: 0,
+        unended: 0,
+        changes_committed: 0,
+        changes_rolled_back: 0,
+        changes_unended: 0,
+        changes_zero: 0,
+    };
+    Judged {
+        walked: w,
+        tally: none,
     }
 }
 
-// The first refusal, or where the log ends; `bounded` says whether only so many records are lent.
+// The first refusal, or where the log ends and what it counts; `bounded` says whether only so many records are lent.
 pub fn judge(
     t: &[u32; 2048],
     magic: u64,
@@ -41,13 +62,10 @@ pub fn judge(
     lists: &mut [u32; 4097],
     fronts: &mut [u32; 4096],
     space: &mut [u8; 655360],
-    memo: &mut [u32; 16384],
-) -> Walked
+) -> Judged
     requires { ⌜ Tables (now t) ⌝ }
-    requires { ⌜ Memo (now log) (now memo) ⌝ }
-    ensures { λ r. ⌜ Judgement (fullOf bounded records) magic (floor .0) (now (pages .entry)) (now (log .entry)) (now (starts .exit)) (now (lasts .exit)) r ⌝ }
+    ensures { λ r. ⌜ Judgement (fullOf bounded records) magic (floor .0) (now (pages .entry)) (now (log .entry)) (now (starts .exit)) (now (lasts .exit)) (r .walked) ⌝ }
     ensures { λ r. ⌜ Gathered (now (pages .entry)) (now (log .entry)) (now (lists .exit)) (now (fronts .exit)) (now (space .exit)) r ⌝ }
-    ensures { λ _. ⌜ Memo (now (log .entry)) (now (memo .exit)) ⌝ }
 {
     // made before any test: docs/DECISIONS.md says why
     let mut hints = [32u32; 16384];
@@ -69,7 +87,7 @@ pub fn judge(
     );
     let w = found.walked;
     if w.number != 0 {
-        return w;
+        return refused(w);
     }
     let v = judge_pages(t, magic, floor, w.last, pages, n);
     if v.number != 0 {
@@ -79,10 +97,13 @@ pub fn judge(
     if at < w.place {
         return refusal(NO_DATA_PAGE, at);
     }
-    gather(log, w.place, n, lists, fronts, space, memo);
+    let c = gather(log, w.place, n, lists, fronts, space);
     let i = tight(log, pages, n, starts, lists, fronts, space);
     if i < n {
         return refusal(PAGE_OVERFULL, i);
     }
-    w
+    Judged {
+        walked: w,
+        tally: c,
+    }
 }

@@ -13,15 +13,23 @@ ghost use Rattle.recovery.specs.Spot.{Lying};
 use endian::Lsn;
 use endian::PageNumber;
 use images::Image;
+use order::Walked;
 use records::inner::fill;
 use rules::Answer;
 use rules::Record;
 use rules::RowHead;
+use tally::Tally;
 use tally::inner::fill_flat;
 
 mod core;
 mod judge;
 mod row;
+
+// The first refusal, or where the log ends; accepted, the counts of the answer.
+pub struct Judged {
+    pub walked: Walked,
+    pub tally: Tally,
+}
 
 // A verdict, and where the tuple of a slot stands in the log or in the page area; no tuple has no bytes.
 pub struct Spot {
