@@ -1,17 +1,13 @@
--- Cells of different slots differ and lie within their group; what a store into one cell leaves. Assumes nothing.
+-- Cells of different slots differ and lie within their group. Assumes nothing.
 use Prim.Native.Nat.{ℕ, zero, suc, _+_, _-_, _≤_, _<_}
 use native.Mathlib.Decide.{decLt}
 use native.Mathlib.Omega.{arith}
-use mathlib.Core.Path.{_≡_, refl, ap, ap₂}
-use mathlib.Core.Bool.{Bool, true, false}
+use mathlib.Core.Path.{_≡_, refl, ap}
 use mathlib.Core.List.{List}
-use lib.ListN.{length, getD, set}
-use lib.Seq.{getD-set-same, getD-set-other}
-use lib.Dec.{eqb}
-use borrow.Author.Tests.{eqb-true, eqb-false}
+use lib.ListN.{getD}
 use Rattle.wal.specs.Entry.{Entry}
 use Rattle.rules.specs.Mend.{topOf}
-use Rattle.cells.specs.Cell.{startOf, cellOf, Starts, Cells, Blank}
+use Rattle.cells.specs.Cell.{startOf, cellOf, Starts}
 
 module _ (es : List Entry) where
   pub start-next : (i : ℕ) → startOf es (suc i) ≡ startOf es i + topOf i es
@@ -48,31 +44,7 @@ module _ (es : List Entry) where
         ]
       ]
 
-  -- a store into the cell of slot m of page j
-  module _ (lo hi : ℕ) (P Q : ℕ → ℕ → ℕ → Type 0) (cells : List ℕ) (j m x : ℕ) (lj : lo ≤ j) (mj : m < topOf j es) where
-    pub cells-set : cellOf es lo j m < length cells → Q j m x → ((i k : ℕ) → (i ≡ j → k ≡ m → ⊥) → (c : ℕ) → P i k c → Q i k c)
-        → Cells es lo hi P cells → Cells es lo hi Q (set cells (cellOf es lo j m) x)
-    cells-set room new old c = record { at = λ i k li ih ki. at i k li ih ki (eqb (cellOf es lo i k) (cellOf es lo j m)) refl }
-      where
-        at : (i k : ℕ) → lo ≤ i → i < hi → k < topOf i es → (b : Bool) → eqb (cellOf es lo i k) (cellOf es lo j m) ≡ b
-            → Q i k (getD (set cells (cellOf es lo j m) x) (cellOf es lo i k) 0)
-        at i k li ih ki true q =
-            let e : cellOf es lo i k ≡ cellOf es lo j m = eqb-true _ _ q in
-            let o = cell-one lo i j k m li lj ki mj e in
-            rw (e, getD-set-same cells (cellOf es lo j m) x 0 room, o .0, o .1) new
-        at i k li ih ki false q =
-            let n : cellOf es lo i k ≡ cellOf es lo j m → ⊥ = eqb-false _ _ q in
-            rw (getD-set-other cells (cellOf es lo j m) (cellOf es lo i k) x 0 n)
-            (old i k (λ a b. n (ap₂ (cellOf es lo) a b)) (getD cells (cellOf es lo i k) 0) (c .at i k li ih ki))
-
   -- as code finds the cell
   pub cell-is : (n lo i k : ℕ) (a : List ℕ) → Starts es n a → lo ≤ i → i ≤ n → (getD a lo 0 ≤ getD a i 0) × (getD a i 0 - getD a lo 0 + k ≡ cellOf es lo i k)
   unfolding cellOf
   cell-is n lo i k a t l h = omega (arith, t .at lo (omega arith), t .at i h, start-rises lo i l)
-
-  -- what holds of every cell
-  pub cells-map : (lo hi : ℕ) (P Q : ℕ → ℕ → ℕ → Type 0) (cells : List ℕ) → ((i k c : ℕ) → lo ≤ i → i < hi → P i k c → Q i k c) → Cells es lo hi P cells → Cells es lo hi Q cells
-  cells-map lo hi P Q cells f c = record { at = λ i k li ih ki. f i k _ li ih (c .at i k li ih ki) }
-
-  pub cells-blank : (lo hi : ℕ) (P : ℕ → ℕ → ℕ → Type 0) (cells : List ℕ) → ((i k : ℕ) → P i k 0) → Blank cells → Cells es lo hi P cells
-  cells-blank lo hi P cells f b = record { at = λ i k li ih ki. rw (b .at (cellOf es lo i k)) (f i k) }

@@ -1,5 +1,5 @@
 -- Where the cells of touched pages stand: one cell for each slot up to the highest touched one, page by page.
-use Prim.Native.Nat.{ℕ, zero, suc, _+_, _-_, _≤_, _<_}
+use Prim.Native.Nat.{ℕ, zero, suc, _+_, _-_, _≤_}
 use mathlib.Core.Path.{_≡_}
 use mathlib.Core.List.{List}
 use lib.ListN.{getD}
@@ -18,10 +18,6 @@ cellOf es lo i k = startOf es i - startOf es lo + k
 -- the array a has the starts of pages 0 to n
 pub record Starts (es : List Entry) (n : ℕ) (a : List ℕ) : Type 0 where
   pub at : (i : ℕ) → i ≤ n → getD a i 0 ≡ startOf es i
-
--- P holds of each slot's cell, for the pages from lo up to hi
-pub record Cells (es : List Entry) (lo hi : ℕ) (P : ℕ → ℕ → ℕ → Type 0) (cells : List ℕ) : Type 0 where
-  pub at : (i k : ℕ) → lo ≤ i → i < hi → k < topOf i es → P i k (getD cells (cellOf es lo i k) 0)
 
 -- every element is 0
 pub record Blank (a : List ℕ) : Type 0 where

@@ -1,2 +1,2 @@
-// Cells of touched slots, one u32 each, for groups of consecutive pages.
+// What one walk measures of each page, and cells of touched slots for groups of consecutive pages.
 pub mod inner;

@@ -16,7 +16,6 @@ use Rattle.wal.specs.declared.EntryView.{EntryView}
 use Rattle.wal.proofs.Prefix.{met-split, onward-next, onward-end}
 use Rattle.rules.specs.Shape.{either}
 use Rattle.rules.specs.Order.{any, is, ended}
-use Rattle.rules.specs.Mend.{committed}
 use Rattle.rules.specs.Recover.{outcomeOf}
 use Rattle.rules.proofs.Tests.{both-true, both-none, either-false}
 use Rattle.rules.proofs.OrderLaws.{InTurn}
@@ -125,18 +124,3 @@ module _ {s : List ℕ} {p : ℕ} (t : ℕ) (o : Ordered s) (m : Met s p) (h : S
 pub ending-none : (t : ℕ) (s : List ℕ) (p : ℕ) → p ≡ endOf s → 0 ≡ endingOf t (onward s p)
 unfolding endingOf
 ending-none t s p e = rw (e, onward-end s)
-
--- ---- committed, by the outcome
-
-pub committed-zero : (es : List Entry) → committed es 0 ≡ true
-unfolding committed
-committed-zero es = refl
-
-pub committed-is : (es : List Entry) (t : ℕ) → (t ≡ 0 → ⊥) → committed es t ≡ eqb (outcomeOf es t) 1
-unfolding committed outcomeOf
-committed-is es t n = rw (ne-eqb t 0 n) (go (any (is commit t) es) (any (is rollback t) es))
-  where
-    go : (c r : Bool) → either false c ≡ eqb (pick c 1 (pick r 2 0)) 1
-    go true r = refl
-    go false true = refl
-    go false false = refl

@@ -7,11 +7,10 @@ use native.Mathlib.Numerals.{add-one}
 use native.Mathlib.Omega.{arith}
 use lib.ListN.{getD}
 use borrow.Author.Tests.{eq-eqb, ne-eqb}
-use Rattle.endian.specs.Numbers.{Bytes}
 use Rattle.wal.specs.Entry.{Entry}
 use Rattle.wal.specs.Walk.{entries}
 use Rattle.wal.specs.Prefix.{Stands, said}
-use Rattle.wal.proofs.Prefix.{met-from, met-end, before-end}
+use Rattle.wal.proofs.Prefix.{met-from}
 use Rattle.page.specs.Layout.{bodyBytes, countOf, slotAt}
 use Rattle.page.specs.Packed.{roomFor}
 use Rattle.page.proofs.Tables.{length-tab}
@@ -22,7 +21,6 @@ use Rattle.fates.specs.Fate.{Ordered}
 use Rattle.fates.proofs.Turns.{turn-at, passes-at}
 use Rattle.cells.specs.Cell.{startOf, Starts}
 use Rattle.cells.proofs.CellLaws.{start-next}
-use Rattle.cells.proofs.Pages.{top-le}
 use Rattle.decide.specs.Decide.{won, ChangeAt}
 use Rattle.decide.specs.Lists.{PageDecided}
 use Rattle.images.specs.declared.Image.{Image}
@@ -69,10 +67,6 @@ module _ {es : List Entry} {n : ℕ} {starts : List ℕ} (t : Starts es n starts
 pub top-fits : (c : ℕ → Bool) (es : List Entry) (i : ℕ) (p : List ℕ) → roomFor (slotsFor c es i p) ≤ bodyBytes → topOf i es ≤ 4080
 unfolding slotsFor
 top-fits c es i p h = omega (arith, length-tab (max (countOf p) (topOf i es)) (λ k. decided c es i k (slotAt p k)))
-
--- no top of a log of bytes is above 65536
-pub top-small : {s : List ℕ} → Bytes s → (i : ℕ) → topOf i (entries s) ≤ 65536
-top-small {s} b i = rw (before-end s) at (top-le b (met-end s) i)
 
 -- ---- the cells of a page
 

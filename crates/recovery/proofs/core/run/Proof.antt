@@ -1,6 +1,6 @@
 -- `run` meets its contract: refused, nothing is written; else pages are mended, and counts are those of the entries.
 -- Assumes nothing.
-use mathlib.Core.Path.{_≡_, sym, _∙_}
+use mathlib.Core.Path.{_∙_}
 use mathlib.Core.List.{[]}
 use borrow.Author.Needs.{needs}
 use Rattle.recovery.proofs.Outcome.{Sure, sure, verdict-zero, run-refused, run-done}

@@ -5,7 +5,7 @@ use mathlib.Core.Bool.{false}
 use native.Mathlib.Omega.{arith}
 use borrow.Author.Needs.{needs}
 use Rattle.wal.specs.Read.{first}
-use Rattle.wal.specs.Walk.{entries, endOf}
+use Rattle.wal.specs.Walk.{entries}
 use Rattle.page.specs.Layout.{pagesIn}
 use Rattle.page.specs.Fault.{sizeWrong}
 use Rattle.page.specs.declared.Verdict.{Verdict}
@@ -14,7 +14,6 @@ use Rattle.rules.specs.Recover.{pagesFrom, strayFrom}
 use Rattle.order.specs.First.{fullOf}
 use Rattle.order.specs.declared.Walked.{Walked}
 use Rattle.order.proofs.HintLaws.{hints-first}
-use Rattle.fates.specs.Fate.{Ordered}
 use Rattle.checks.proofs.LogLaws.{header-fits}
 use Rattle.recovery.proofs.JudgeLaws.{header-ok, ordered-ok, judge-size, judge-pages, judge-stray, judge-tight, judge-done, stray-ok}
 use Rattle.recovery.proofs.Judging.{rises-ok, size-is, touched-ok, gathered-none, judged-refused, judged-log, log-ok, judged-all}
