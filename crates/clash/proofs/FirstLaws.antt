@@ -7,7 +7,7 @@ use native.Mathlib.Omega.{arith}
 use native.Mathlib.Decide.{decLt, ℕ-discrete}
 use lib.ListN.{replicate}
 use Rattle.wal.specs.Read.{lengthAt}
-use Rattle.wal.specs.Prefix.{Met, Stands, said, before}
+use Rattle.wal.specs.Prefix.{Met, Stands, said}
 use Rattle.wal.proofs.Prefix.{met-first, met-next, met-from, met-below, Below}
 use Rattle.rules.proofs.Tests.{both-true}
 use Rattle.clash.specs.Open.{Opens}

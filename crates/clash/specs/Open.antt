@@ -28,7 +28,7 @@ pub record Opens (s : List ℕ) (at : ℕ) (opens : List ℕ) : Type 0 where
   pub long : length opens ≡ 32766
   pub tell : (r : ℕ) → r < 16383 → Open s at r (getD opens r 0) (getD opens (r + 16383) 0)
 
--- the place v tells of no transaction other than t that a cell keeps as x
+-- v is not 1, and tells of no transaction other than t that a cell keeps as x
 pub record Quiet (s : List ℕ) (t x v : ℕ) : Type 0 where
   pub known : v ≡ 1 → ⊥
   pub none : (u : ℕ) → (t ≡ u → ⊥) → x ≡ kept u → isOf s u v ≡ false

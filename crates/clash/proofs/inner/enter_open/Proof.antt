@@ -1,7 +1,7 @@
 -- `enter_open` meets its contract: the entry's transaction has a place, takes a free one, or there is none.
 -- Assumes nothing.
 use Prim.Native.Nat.{_+_, _%_}
-use mathlib.Core.Path.{_≡_, sym, _∙_}
+use mathlib.Core.Path.{sym, _∙_}
 use borrow.Author.Needs.{needs}
 use lib.ListN.{getD}
 use native.Mathlib.Omega.{arith}
