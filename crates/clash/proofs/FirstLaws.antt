@@ -7,7 +7,7 @@ use native.Mathlib.Omega.{arith}
 use native.Mathlib.Decide.{decLt, ℕ-discrete}
 use lib.ListN.{replicate}
 use Rattle.wal.specs.Read.{lengthAt}
-use Rattle.wal.specs.Prefix.{Met, Stands, said, before}
+use Rattle.wal.specs.Prefix.{Met, Stands, said}
 use Rattle.wal.proofs.Prefix.{met-first, met-next, met-from, met-below, Below}
 use Rattle.rules.proofs.Tests.{both-true}
 use Rattle.clash.specs.Open.{Opens}
@@ -39,7 +39,7 @@ pub record Sweeping (s opens : List ℕ) (limit lo hi at : ℕ) : Type 0 where
   pub told : Opens s at opens
   pub clean : Clean lo hi s at
 
-pub sweeping-first : {s : List ℕ} {limit : ℕ} (lo hi : ℕ) → Met s limit → Sweeping s (replicate 32767 0) limit lo hi 32
+pub sweeping-first : {s : List ℕ} {limit : ℕ} (lo hi : ℕ) → Met s limit → Sweeping s (replicate 32766 0) limit lo hi 32
 sweeping-first {s} lo hi m = record { met = met-first s; upTo = met-from s m; told = opens-first s; clean = clean-first lo hi s }
 
 module _ {s opens : List ℕ} {limit lo hi at : ℕ} (k : Sweeping s opens limit lo hi at) (end : Met s limit) where

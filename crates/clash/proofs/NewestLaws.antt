@@ -1,7 +1,7 @@
 -- The newest change on a slot after one entry more, and the clash that it tells. Assumes nothing.
 use Prim.Native.Nat.{ℕ, _+_, _-_, _%_, _≤_, _<_}
 use mathlib.Core.Path.{_≡_, refl, sym, ap, _∙_}
-use mathlib.Core.Bool.{Bool, true, false, not}
+use mathlib.Core.Bool.{Bool, true, false}
 use mathlib.Core.List.{List, [], _∷_, _++_}
 use native.Mathlib.Omega.{arith}
 use native.Mathlib.Decide.{ℕ-discrete}
@@ -82,7 +82,7 @@ pub kept-zero : kept 0 ≡ 0
 unfolding kept
 kept-zero = refl
 
-pub kept-some : (u : ℕ) → (u ≡ 0 → ⊥) → kept u ≡ u % 65534 + 1
+pub kept-some : (u : ℕ) → (u ≡ 0 → ⊥) → kept u ≡ u % 65532 + 1
 unfolding kept
 kept-some u n = rw (ne-eqb u 0 n)
 
@@ -90,7 +90,7 @@ pub kept-below : (u : ℕ) → kept u < 65536
 unfolding kept
 kept-below u = go (eqb u 0)
   where
-    go : (b : Bool) → pick b 0 (u % 65534 + 1) < 65536
+    go : (b : Bool) → pick b 0 (u % 65532 + 1) < 65536
     go true = omega arith
     go false = omega arith
 
@@ -98,7 +98,7 @@ kept-below u = go (eqb u 0)
 pub kept-none : (u x : ℕ) → x ≡ kept u → x ≡ 0 → u ≡ 0
 kept-none u x e z = elim (ℕ-discrete u 0) [ yes h ↦ h | no h ↦ absurd (omega (arith, kept-some u h)) ]
 
-pub kept-rest : (u x : ℕ) → x ≡ kept u → (x ≡ 0 → ⊥) → (0 < u) × (u % 32767 ≡ (x - 1) % 32767)
+pub kept-rest : (u x : ℕ) → x ≡ kept u → (x ≡ 0 → ⊥) → (0 < u) × (u % 16383 ≡ (x - 1) % 16383)
 kept-rest u x e n = elim (ℕ-discrete u 0) [ yes h ↦ absurd (n (e ∙ ap kept h ∙ kept-zero)) | no h ↦ (omega arith, omega (arith, kept-some u h)) ]
 
 pub newest-first : (s : List ℕ) (i k : ℕ) → Newest s 32 i k 0

@@ -1,6 +1,6 @@
 -- What is kept of open transactions at the first place, and after one entry more; the clashes that it rules out. Assumes nothing.
 use Prim.Native.Nat.{ℕ, _+_, _-_, _%_, _≤_, _<_}
-use mathlib.Core.Path.{_≡_, refl, sym, ap, _∙_, subst}
+use mathlib.Core.Path.{_≡_, refl, sym, ap, _∙_}
 use mathlib.Core.Bool.{true, false}
 use mathlib.Core.List.{List}
 use native.Mathlib.Omega.{arith}
@@ -14,23 +14,35 @@ use Rattle.wal.specs.Entry.{Entry}
 use Rattle.wal.specs.Read.{lengthAt}
 use Rattle.wal.specs.Prefix.{Met, Stands, said, before}
 use Rattle.wal.proofs.Prefix.{stands-at, before-first}
-use Rattle.rules.specs.Shape.{isChange, pageOf, slotOf}
-use Rattle.rules.proofs.Tests.{both-true}
+use Rattle.rules.specs.Shape.{either, isChange, pageOf, slotOf}
+use Rattle.rules.proofs.Tests.{both-true, false-true}
 use Rattle.order.specs.State.{stateAfter, stateFrom, stateOf}
 use Rattle.order.specs.Clash.{clashAfter}
 use Rattle.order.proofs.Back.{said-txn}
 use Rattle.order.proofs.HintLaws.{state-own, state-keeps}
 use Rattle.clash.specs.Newest.{newestOn, kept, Newest}
-use Rattle.clash.specs.Open.{isOf, Open, Opens}
+use Rattle.clash.specs.Open.{isOf, Open, Opens, Quiet}
 use Rattle.clash.proofs.NewestLaws.{clash-none, clash-own, clash-state, kept-none, kept-rest}
 
-pub opens-first : (s : List ℕ) → Opens s 32 (replicate 32767 0)
+-- what is kept, by the two places
+as-told : {s : List ℕ} {at r v w v2 w2 : ℕ} → v2 ≡ v → w2 ≡ w → Open s at r v w → Open s at r v2 w2
+as-told e f o = rw (e, f) o
+
+open-first : (s : List ℕ) (r : ℕ) → Open s 32 r 0 0
 unfolding stateFrom isOf
+open-first s r =
+    record {
+      within = λ l. absurd (omega arith);
+      within2 = λ l. absurd (omega arith);
+      tells = λ n t p q. ap (λ (es : List Entry). eqb (stateOf t es) 1) (before-first s);
+      apart = λ t h. refl;
+    }
+
+pub opens-first : (s : List ℕ) → Opens s 32 (replicate 32766 0)
 opens-first s =
     record {
-      long = length-replicate {0} {A = ℕ} 32767 0;
-      tell = λ r h. subst (Open s 32 r) (sym (getD-replicate 32767 r 0 0 h))
-          (record { within = λ l. absurd (omega arith); tells = λ n t p q. ap (λ (es : List Entry). eqb (stateOf t es) 1) (before-first s) });
+      long = length-replicate {0} {A = ℕ} 32766 0;
+      tell = λ r h. as-told (getD-replicate 32766 r 0 0 (omega arith)) (getD-replicate 32766 (r + 16383) 0 0 (omega arith)) (open-first s r);
     }
 
 -- ---- whose entry it is
@@ -56,61 +68,133 @@ module _ (s : List ℕ) (t v : ℕ) where
 
 -- ---- an entry more
 module _ {s : List ℕ} {at : ℕ} (m : Met s at) (h : Stands s at) where
-  of-own : isOf s (said s at .txn) at ≡ true
-  of-own = of-place s (said s at .txn) at (omega (arith, stands-at h .from)) ∙ eq-eqb _ _ (sym (said-txn s at))
-
   -- what is kept of transactions other than the entry's stays
-  open-other : {r v : ℕ} → ((t : ℕ) → 0 < t → t % 32767 ≡ r → said s at .txn ≡ t → ⊥) → Open s at r v → Open s (at + lengthAt s at) r v
-  open-other n k = record { within = k .within; tells = λ o t p q. ap (λ (x : ℕ). eqb x 1) (state-keeps s at m h t (n t p q)) ∙ k .tells o t p q }
+  open-other : {r v w : ℕ} → ((t : ℕ) → 0 < t → t % 16383 ≡ r → said s at .txn ≡ t → ⊥) → Open s at r v w → Open s (at + lengthAt s at) r v w
+  open-other n k =
+      record {
+        within = k .within;
+        within2 = k .within2;
+        tells = λ o t p q. ap (λ (x : ℕ). eqb x 1) (state-keeps s at m h t (n t p q)) ∙ k .tells o t p q;
+        apart = k .apart;
+      }
 
-  -- w takes the place of v: it tells of the entry's transaction what the entry's type says, and of others what v told
-  open-next : {r v : ℕ} (w : ℕ) → Open s at r v → (1 < w → w + 20 ≤ length s) → ((w ≡ 1 → ⊥) → v ≡ 1 → ⊥)
-      → isOf s (said s at .txn) w ≡ eqb (stateAfter (said s at .kind)) 1 → ((t : ℕ) → (said s at .txn ≡ t → ⊥) → isOf s t w ≡ isOf s t v)
-      → Open s (at + lengthAt s at) r w
-  open-next {r} w k within known own others = record { within = within; tells = λ n t p q. tells n t p q (ℕ-discrete (said s at .txn) t) }
-    where
-      tells : (w ≡ 1 → ⊥) → (t : ℕ) → 0 < t → t % 32767 ≡ r → Dec (said s at .txn ≡ t) → eqb (stateOf t (before s (at + lengthAt s at))) 1 ≡ isOf s t w
-      tells n t p q (yes e) = ap (λ (x : ℕ). eqb x 1) (state-own s at m h t e) ∙ sym own ∙ ap (λ (u : ℕ). isOf s u w) e
-      tells n t p q (no e) = ap (λ (x : ℕ). eqb x 1) (state-keeps s at m h t e) ∙ k .tells (known n) t p q ∙ sym (others t e)
+  -- where no place is free nothing is told any more
+  pub open-many : {r v w : ℕ} → Open s at r v w → Open s (at + lengthAt s at) r 1 w
+  open-many k =
+      record {
+        within = λ l. absurd (omega arith);
+        within2 = k .within2;
+        tells = λ n. absurd (n refl);
+        apart = λ u y. false-true (sym (of-none s u 1 (omega arith)) ∙ y);
+      }
 
-  -- by the type of the entry, and by whose entry was kept
-  module _ {r v t : ℕ} (k : Open s at r v) (is : t ≡ said s at .txn) where
-    pub open-many : Open s (at + lengthAt s at) r 1
-    open-many = record { within = λ l. absurd (omega arith); tells = λ n. absurd (n refl) }
+  module _ {t : ℕ} (is : t ≡ said s at .txn) where
+    of-own : isOf s t at ≡ true
+    of-own = of-place s t at (omega (arith, stands-at h .from)) ∙ eq-eqb _ _ (sym (said-txn s at) ∙ sym is)
 
-    open-kept : isOf s t v ≡ eqb (stateAfter (said s at .kind)) 1 → Open s (at + lengthAt s at) r v
-    open-kept o = open-next v k (k .within) (λ n. n) (ap (λ (u : ℕ). isOf s u v) (sym is) ∙ o) (λ u n. refl)
+    -- of other transactions a place tells what it told: where the entry takes a free one, and where its transaction leaves its own
+    abbrev Same : ℕ → ℕ → Type 0
+    Same v v2 = (u : ℕ) → (t ≡ u → ⊥) → isOf s u v2 ≡ isOf s u v
 
-    module _ (on : stateAfter (said s at .kind) ≡ 1) where
-      pub open-stays : isOf s t v ≡ true → Open s (at + lengthAt s at) r v
-      open-stays o = open-kept (o ∙ sym (eq-eqb _ 1 on))
+    same-new : (v : ℕ) → v ≡ 0 → Same v at
+    same-new v z u n = of-other s t at u n of-own ∙ sym (of-none s u v (omega arith))
 
-      pub open-new : v ≡ 0 → Open s (at + lengthAt s at) r at
-      open-new z =
-          let e = stands-at h in
-          open-next at k (λ l. omega (arith, e .room, e .low)) (λ n o. omega arith) (of-own ∙ sym (eq-eqb _ 1 on))
-          (λ u n. of-other s (said s at .txn) at u n of-own ∙ sym (of-none s u v (omega arith)))
+    same-free : (v : ℕ) → isOf s t v ≡ true → Same v 0
+    same-free v o u n = of-none s u 0 (omega arith) ∙ sym (of-other s t v u n o)
 
-    module _ (ends : stateAfter (said s at .kind) ≡ 1 → ⊥) where
-      pub open-ended : isOf s t v ≡ true → Open s (at + lengthAt s at) r 0
-      open-ended o =
-          open-next 0 k (λ l. absurd (omega arith)) (λ n z. omega (arith, of-high s t v o)) (of-none s (said s at .txn) 0 (omega arith) ∙ sym (ne-eqb _ 1 ends))
-          (λ u n. of-none s u 0 (omega arith) ∙ sym (of-other s t v u (λ e. n (sym is ∙ e)) o))
-
-      pub open-absent : isOf s t v ≡ false → Open s (at + lengthAt s at) r v
-      open-absent o = open-kept (o ∙ sym (ne-eqb _ 1 ends))
-
-  -- for all remainders
-  module _ {opens : List ℕ} (k : Opens s at opens) (t : ℕ) (is : t ≡ said s at .txn) where
-    pub opens-zero : t ≡ 0 → Opens s (at + lengthAt s at) opens
-    opens-zero z = record { long = k .long; tell = λ r b. open-other (λ u p q e. omega arith) (k .tell r b) }
-
-    pub opens-next : (w : ℕ) → Open s (at + lengthAt s at) (t % 32767) w → Opens s (at + lengthAt s at) (set opens (t % 32767) w)
-    opens-next w o = record { long = simp length-set (k .long); tell = λ r b. tell r b (ℕ-discrete r (t % 32767)) }
+    -- v2 and w2 take the places of v and w: they tell of t what the entry's type says
+    open-next : {r v w : ℕ} (v2 w2 : ℕ) → Open s at r v w → (1 < v2 → v2 + 20 ≤ length s) → (1 < w2 → w2 + 20 ≤ length s) → ((v2 ≡ 1 → ⊥) → v ≡ 1 → ⊥)
+        → Same v v2 → Same w w2 → either (isOf s t v2) (isOf s t w2) ≡ eqb (stateAfter (said s at .kind)) 1 → (isOf s t v2 ≡ true → isOf s t w2 ≡ false)
+        → Open s (at + lengthAt s at) r v2 w2
+    open-next {r} {v} {w} v2 w2 k within within2 known first second own apart =
+        record { within = within; within2 = within2; tells = λ n u p q. tells n u p q (ℕ-discrete t u); apart = λ u. apart2 u (ℕ-discrete t u) }
       where
-        tell : (r : ℕ) → r < 32767 → Dec (r ≡ t % 32767) → Open s (at + lengthAt s at) r (getD (set opens (t % 32767) w) r 0)
-        tell r b (yes e) = rw (e, getD-set-same opens (t % 32767) w 0 (omega (arith, k .long))) o
-        tell r b (no n) = rw (getD-set-other opens (t % 32767) r w 0 n) (open-other (λ u p q e. n (sym q ∙ ap (λ (x : ℕ). x % 32767) (sym e ∙ sym is))) (k .tell r b))
+        tells : (v2 ≡ 1 → ⊥) → (u : ℕ) → 0 < u → u % 16383 ≡ r → Dec (t ≡ u) → eqb (stateOf u (before s (at + lengthAt s at))) 1 ≡ either (isOf s u v2) (isOf s u w2)
+        tells n u p q (yes e) = ap (λ (x : ℕ). eqb x 1) (state-own s at m h u (sym is ∙ e)) ∙ sym own ∙ ap (λ (x : ℕ). either (isOf s x v2) (isOf s x w2)) e
+        tells n u p q (no e) = ap (λ (x : ℕ). eqb x 1) (state-keeps s at m h u (λ z. e (is ∙ z))) ∙ k .tells (known n) u p q ∙ sym (rw (first u e, second u e))
+
+        apart2 : (u : ℕ) → Dec (t ≡ u) → isOf s u v2 ≡ true → isOf s u w2 ≡ false
+        apart2 u (yes e) o = ap (λ (x : ℕ). isOf s x w2) (sym e) ∙ apart (ap (λ (x : ℕ). isOf s x v2) e ∙ o)
+        apart2 u (no e) o = second u e ∙ k .apart u (sym (first u e) ∙ o)
+
+    -- by the type of the entry, and by whose entries were kept
+    module _ {r v w : ℕ} (k : Open s at r v w) where
+      open-kept : either (isOf s t v) (isOf s t w) ≡ eqb (stateAfter (said s at .kind)) 1 → Open s (at + lengthAt s at) r v w
+      open-kept o = open-next v w k (k .within) (k .within2) (λ n. n) (λ u n. refl) (λ u n. refl) o (k .apart t)
+
+      module _ (on : stateAfter (said s at .kind) ≡ 1) where
+        pub open-stays : isOf s t v ≡ true → Open s (at + lengthAt s at) r v w
+        open-stays o = open-kept (rw o (sym (eq-eqb _ 1 on)))
+
+        pub open-stays2 : isOf s t v ≡ false → isOf s t w ≡ true → Open s (at + lengthAt s at) r v w
+        open-stays2 o o2 = open-kept (rw (o, o2) (sym (eq-eqb _ 1 on)))
+
+        module _ (o : isOf s t v ≡ false) (o2 : isOf s t w ≡ false) where
+          pub open-new : v ≡ 0 → Open s (at + lengthAt s at) r at w
+          open-new z =
+              let e = stands-at h in
+              open-next at w k (λ l. omega (arith, e .room, e .low)) (k .within2) (λ n y. omega arith) (same-new v z) (λ u n. refl) (rw of-own (sym (eq-eqb _ 1 on))) (λ y. o2)
+
+          pub open-new2 : w ≡ 0 → Open s (at + lengthAt s at) r v at
+          open-new2 z =
+              let e = stands-at h in
+              open-next v at k (k .within) (λ l. omega (arith, e .room, e .low)) (λ n. n) (λ u n. refl) (same-new w z) (rw (o, of-own) (sym (eq-eqb _ 1 on))) (λ y. false-true (sym o ∙ y))
+
+      module _ (ends : stateAfter (said s at .kind) ≡ 1 → ⊥) where
+        pub open-ended : isOf s t v ≡ true → Open s (at + lengthAt s at) r 0 w
+        open-ended o =
+            let z = of-none s t 0 (omega arith) in
+            open-next 0 w k (λ l. absurd (omega arith)) (k .within2) (λ n z. omega (arith, of-high s t v o)) (same-free v o) (λ u n. refl) (rw (z, k .apart t o) (sym (ne-eqb _ 1 ends))) (λ y. k .apart t o)
+
+        module _ (o : isOf s t v ≡ false) where
+          pub open-ended2 : isOf s t w ≡ true → Open s (at + lengthAt s at) r v 0
+          open-ended2 o2 =
+              let z = of-none s t 0 (omega arith) in
+              open-next v 0 k (k .within) (λ l. absurd (omega arith)) (λ n. n) (λ u n. refl) (same-free w o2) (rw (o, z) (sym (ne-eqb _ 1 ends))) (λ y. z)
+
+          pub open-absent : isOf s t w ≡ false → Open s (at + lengthAt s at) r v w
+          open-absent o2 = open-kept (rw (o, o2) (sym (ne-eqb _ 1 ends)))
+
+    -- for all remainders
+    module _ {opens : List ℕ} (k : Opens s at opens) where
+      pub opens-zero : t ≡ 0 → Opens s (at + lengthAt s at) opens
+      opens-zero z = record { long = k .long; tell = λ r b. open-other (λ u p q e. omega arith) (k .tell r b) }
+
+      -- of t's remainder both places stand at index r and at r + 16383
+      opens-next : (opens2 : List ℕ) → length opens2 ≡ length opens → ((i : ℕ) → (i ≡ t % 16383 → ⊥) → (i ≡ t % 16383 + 16383 → ⊥) → getD opens2 i 0 ≡ getD opens i 0)
+          → Open s (at + lengthAt s at) (t % 16383) (getD opens2 (t % 16383) 0) (getD opens2 (t % 16383 + 16383) 0) → Opens s (at + lengthAt s at) opens2
+      opens-next opens2 l same o = record { long = l ∙ k .long; tell = λ r b. tell r b (ℕ-discrete r (t % 16383)) }
+        where
+          tell : (r : ℕ) → r < 16383 → Dec (r ≡ t % 16383) → Open s (at + lengthAt s at) r (getD opens2 r 0) (getD opens2 (r + 16383) 0)
+          tell r b (yes e) = rw e o
+          tell r b (no n) =
+              as-told (same r n (omega arith)) (same (r + 16383) (omega arith) (omega arith))
+              (open-other (λ u p q e. n (sym q ∙ ap (λ (x : ℕ). x % 16383) (sym e ∙ sym is))) (k .tell r b))
+
+      pub opens-same : Open s (at + lengthAt s at) (t % 16383) (getD opens (t % 16383) 0) (getD opens (t % 16383 + 16383) 0) → Opens s (at + lengthAt s at) opens
+      opens-same = opens-next opens refl (λ i n n2. refl)
+
+      pub opens-set : (x : ℕ) → Open s (at + lengthAt s at) (t % 16383) x (getD opens (t % 16383 + 16383) 0) → Opens s (at + lengthAt s at) (set opens (t % 16383) x)
+      opens-set x o =
+          opens-next (set opens (t % 16383) x) (simp length-set) (λ i n n2. getD-set-other opens (t % 16383) i x 0 n)
+          (as-told (getD-set-same opens (t % 16383) x 0 (omega (arith, k .long))) (getD-set-other opens (t % 16383) (t % 16383 + 16383) x 0 (omega arith)) o)
+
+      pub opens-set2 : (x : ℕ) → Open s (at + lengthAt s at) (t % 16383) (getD opens (t % 16383) 0) x → Opens s (at + lengthAt s at) (set opens (t % 16383 + 16383) x)
+      opens-set2 x o =
+          opens-next (set opens (t % 16383 + 16383) x) (simp length-set) (λ i n n2. getD-set-other opens (t % 16383 + 16383) i x 0 n2)
+          (as-told (getD-set-other opens (t % 16383 + 16383) (t % 16383) x 0 (omega arith)) (getD-set-same opens (t % 16383 + 16383) x 0 (omega (arith, k .long))) o)
+
+-- ---- the place of a transaction that does not clash
+module _ (s : List ℕ) (t x v : ℕ) where
+  pub quiet-free : v ≡ 0 → Quiet s t x v
+  quiet-free z = record { known = λ o. omega arith; none = λ u n e. of-none s u v (omega arith) }
+
+  module _ (h : 1 < v) where
+    pub quiet-own : numberAt 8 (v + 12) s ≡ t → Quiet s t x v
+    quiet-own o = record { known = λ o. omega arith; none = λ u n e. of-place s u v h ∙ ne-eqb _ u (λ z. n (sym o ∙ z)) }
+
+    pub quiet-rest : (kept (numberAt 8 (v + 12) s) ≡ x → ⊥) → Quiet s t x v
+    quiet-rest o = record { known = λ o. omega arith; none = λ u n e. of-place s u v h ∙ ne-eqb _ u (λ z. o (ap kept z ∙ sym e)) }
 
 -- ---- the clash of a change, by what the cell of its slot keeps
 module _ {s opens : List ℕ} {at x : ℕ} (k : Opens s at opens) (change : isChange (said s at) ≡ true) (is : Newest s at (pageOf (said s at)) (slotOf (said s at)) x) where
@@ -122,31 +206,18 @@ module _ {s opens : List ℕ} {at x : ℕ} (k : Opens s at opens) (change : isCh
   quiet-slot z = clash-none (before s at) (said s at) change newest refl (kept-none newest x is z)
 
   module _ (some : x ≡ 0 → ⊥) where
-    -- the remainder of the newest one's transaction
-    rest : (0 < newest) × (newest % 32767 ≡ (x - 1) % 32767)
+    pub rest-open : Open s at ((x - 1) % 16383) (getD opens ((x - 1) % 16383) 0) (getD opens ((x - 1) % 16383 + 16383) 0)
+    rest-open = k .tell ((x - 1) % 16383) (omega arith)
+
+    -- the transaction of the newest one is of that remainder, and not open
+    pub quiet-both : {t : ℕ} → t ≡ said s at .txn → Quiet s t x (getD opens ((x - 1) % 16383) 0) → Quiet s t x (getD opens ((x - 1) % 16383 + 16383) 0) → clashAfter (before s at) (said s at) ≡ false
     unfolding newest
-    rest = kept-rest newest x is some
-
-    pub rest-open : Open s at ((x - 1) % 32767) (getD opens ((x - 1) % 32767) 0)
-    rest-open = k .tell ((x - 1) % 32767) (omega arith)
-
-    -- the transaction of the newest one is not open
-    module _ {v : ℕ} (told : v ≡ getD opens ((x - 1) % 32767) 0) where
-      quiet : (v ≡ 1 → ⊥) → ((said s at .txn ≡ newest → ⊥) → isOf s newest v ≡ false) → clashAfter (before s at) (said s at) ≡ false
-      unfolding newest
-      quiet n none =
-          elim (ℕ-discrete newest (said s at .txn)) [
-            | yes e ↦ clash-own (before s at) (said s at) change newest refl (λ z. omega (arith, rest .0)) e
-            | no e ↦ clash-state (before s at) (said s at) change newest refl (λ z. omega (arith, rest .0)) e
-                ∙ subst (Open s at ((x - 1) % 32767)) (sym told) rest-open .tells n newest (rest .0) (rest .1) ∙ none (λ z. e (sym z))
-          ]
-
-      pub quiet-none : v ≡ 0 → clashAfter (before s at) (said s at) ≡ false
-      quiet-none z = quiet (λ o. omega arith) (λ n. of-none s newest v (omega arith))
-
-      pub quiet-own : {t : ℕ} → t ≡ said s at .txn → isOf s t v ≡ true → clashAfter (before s at) (said s at) ≡ false
-      quiet-own {t} e o = quiet (λ z. omega (arith, of-high s t v o)) (λ n. of-other s t v newest (λ z. n (sym e ∙ z)) o)
-
-      pub quiet-rest : 1 < v → (kept (numberAt 8 (v + 12) s) ≡ x → ⊥) → clashAfter (before s at) (said s at) ≡ false
-      unfolding newest
-      quiet-rest h n = quiet (λ z. omega arith) (λ o. of-place s newest v h ∙ ne-eqb _ newest (λ e. n (ap kept e ∙ sym is)))
+    quiet-both {t} own q q2 =
+        let rest = kept-rest newest x is some in
+        elim (ℕ-discrete newest (said s at .txn)) [
+          | yes e ↦ clash-own (before s at) (said s at) change newest refl (λ z. omega (arith, rest .0)) e
+          | no e ↦
+              let n : t ≡ newest → ⊥ = λ z. e (sym z ∙ own) in
+              clash-state (before s at) (said s at) change newest refl (λ z. omega (arith, rest .0)) e
+              ∙ rest-open .tells (q .known) newest (rest .0) (rest .1) ∙ rw (q .none newest n is, q2 .none newest n is)
+        ]

@@ -18,9 +18,9 @@ unfoldable pub newestOn : ℕ → ℕ → ℕ → List Entry → ℕ
 newestOn i k u [] = u
 newestOn i k u (e ∷ es) = newestOn i k (pick (onSlot i k e) (e .txn) u) es
 
--- what a cell keeps of a transaction: 0 of transaction 0, else one more than its remainder modulo 65,534
+-- what a cell keeps of a transaction: 0 of transaction 0, else one more than its remainder modulo 65,532
 unfoldable pub kept : ℕ → ℕ
-kept u = pick (eqb u 0) 0 (u % 65534 + 1)
+kept u = pick (eqb u 0) 0 (u % 65532 + 1)
 
 -- the cell c keeps the transaction of the newest change on the slot before `at`
 abbrev pub Newest : List ℕ → ℕ → ℕ → ℕ → ℕ → Type 0

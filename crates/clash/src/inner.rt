@@ -4,16 +4,15 @@ ghost use mathlib.Core.Bool.{true, false};
 ghost use Prim.Native.Nat.{_+_, _-_, _%_, _^_, _≤_, _<_};
 ghost use lib.ListN.{length, getD};
 ghost use lib.Dec.{eqb};
-ghost use Rattle.endian.specs.Numbers.{numberAt};
 ghost use Rattle.wal.specs.Read.{lengthAt};
 ghost use Rattle.wal.specs.Prefix.{Met, Stands, said, before};
 ghost use Rattle.rules.specs.Shape.{isChange, isShaped, pageOf, slotOf};
 ghost use Rattle.order.specs.Clash.{clashAfter};
-ghost use Rattle.order.specs.State.{stateOf};
+ghost use Rattle.order.specs.State.{stateAfter, stateOf};
 ghost use Rattle.cells.specs.Cell.{Starts, Blank};
 ghost use Rattle.cells.specs.Measure.{Sound, FirstBeyond};
 ghost use Rattle.clash.specs.Newest.{onSlot, newestOn, kept, Newest};
-ghost use Rattle.clash.specs.Open.{isOf, Open, Opens};
+ghost use Rattle.clash.specs.Open.{isOf, Opens, Quiet};
 ghost use Rattle.clash.specs.First.{Shaped, clashIn, FirstIn};
 ghost use Rattle.clash.specs.Group.{Known, Ground, cellFor, noted};
 use cells::inner::cell_at;
@@ -41,32 +40,55 @@ fn is_of(log: &[u8], t: u64, v: u32) -> bool
     u64_at(log, v as usize + 12) == t
 }
 
-// What is kept for the remainder of transaction t behind its entry at `at`; v was kept before it.
-fn entered(log: &[u8], at: usize, kind: u8, t: u64, v: u32) -> u32
-    requires { ⌜ (length (now log) ≤ 16777216) × (kind ≡ said (now log) at .kind) × (t ≡ said (now log) at .txn) ⌝ }
+// Notes the entry at `at`, after which its transaction t is open: in a free place of its remainder. Where both are of others, nothing is known any more.
+fn enter_open(log: &[u8], at: usize, t: u64, opens: &mut [u32; 32766])
+    requires { ⌜ (length (now log) ≤ 16777216) × (t ≡ said (now log) at .txn) × (stateAfter (said (now log) at .kind) ≡ 1) ⌝ }
     requires { ⌜ Met (now log) at ⌝ }
     requires { ⌜ Stands (now log) at ⌝ }
-    requires { ⌜ Open (now log) at (t % 32767) v ⌝ }
-    ensures { λ r. ⌜ Open (now (log .entry)) (at + lengthAt (now (log .entry)) at) (t % 32767) r ⌝ }
+    requires { ⌜ Opens (now log) at (now opens) ⌝ }
+    ensures { λ _. ⌜ Opens (now (log .entry)) (at + lengthAt (now (log .entry)) at) (now (opens .exit)) ⌝ }
 {
-    let own = is_of(log, t, v);
-    if state_after(kind) == 1 {
-        if own {
-            return v;
-        }
-        if v == 0 {
-            return at as u32;
-        }
-        return 1;
+    let r = (t % 16383) as usize;
+    let v = opens[r];
+    if is_of(log, t, v) {
+        return;
     }
-    if own {
-        return 0;
+    let w = opens[r + 16383];
+    if is_of(log, t, w) {
+        return;
     }
-    v
+    if v == 0 {
+        opens[r] = at as u32;
+        return;
+    }
+    if w == 0 {
+        opens[r + 16383] = at as u32;
+        return;
+    }
+    opens[r] = 1;
+}
+
+// Notes the entry at `at`, after which its transaction t is not open: its place becomes free.
+fn enter_ended(log: &[u8], at: usize, t: u64, opens: &mut [u32; 32766])
+    requires { ⌜ (t ≡ said (now log) at .txn) × (stateAfter (said (now log) at .kind) ≡ 1 → ⊥) ⌝ }
+    requires { ⌜ Met (now log) at ⌝ }
+    requires { ⌜ Stands (now log) at ⌝ }
+    requires { ⌜ Opens (now log) at (now opens) ⌝ }
+    ensures { λ _. ⌜ Opens (now (log .entry)) (at + lengthAt (now (log .entry)) at) (now (opens .exit)) ⌝ }
+{
+    let r = (t % 16383) as usize;
+    if is_of(log, t, opens[r]) {
+        opens[r] = 0;
+        return;
+    }
+    if !is_of(log, t, opens[r + 16383]) {
+        return;
+    }
+    opens[r + 16383] = 0;
 }
 
 // Notes the entry at `at`, of transaction t. Of transaction 0 nothing is kept: none clashes with it.
-fn enter(log: &[u8], at: usize, kind: u8, t: u64, opens: &mut [u32; 32767])
+fn enter(log: &[u8], at: usize, kind: u8, t: u64, opens: &mut [u32; 32766])
     requires { ⌜ (length (now log) ≤ 16777216) × (kind ≡ said (now log) at .kind) × (t ≡ said (now log) at .txn) ⌝ }
     requires { ⌜ Met (now log) at ⌝ }
     requires { ⌜ Stands (now log) at ⌝ }
@@ -76,28 +98,33 @@ fn enter(log: &[u8], at: usize, kind: u8, t: u64, opens: &mut [u32; 32767])
     if t == 0 {
         return;
     }
-    let r = (t % 32767) as usize;
-    let v = entered(log, at, kind, t, opens[r]);
-    opens[r] = v;
+    if state_after(kind) == 1 {
+        enter_open(log, at, t, opens);
+        return;
+    }
+    enter_ended(log, at, t, opens);
 }
 
 // Whether transaction u is open before `at`; by stepping backward where nothing is known of its remainder.
-fn is_open(log: &[u8], at: usize, opens: &[u32; 32767], u: u64) -> bool
+fn is_open(log: &[u8], at: usize, opens: &[u32; 32766], u: u64) -> bool
     requires { ⌜ 0 < u ⌝ }
     requires { ⌜ Met (now log) at ⌝ }
     requires { ⌜ Opens (now log) at (now opens) ⌝ }
     ensures { λ r. ⌜ r ≡ eqb (stateOf u (before (now (log .entry)) at)) 1 ⌝ }
 {
-    let r = (u % 32767) as usize;
+    let r = (u % 16383) as usize;
     let v = opens[r];
     if v == 1 {
         return look_back(log, at, u) == 1;
     }
-    is_of(log, u, v)
+    if is_of(log, u, v) {
+        return true;
+    }
+    is_of(log, u, opens[r + 16383])
 }
 
 // Whether the change at `at`, by transaction t, clashes with the newest one on its slot, which is by transaction u.
-fn clashes_with(log: &[u8], at: usize, t: u64, u: u64, opens: &[u32; 32767]) -> bool
+fn clashes_with(log: &[u8], at: usize, t: u64, u: u64, opens: &[u32; 32766]) -> bool
     requires { ⌜ (t ≡ said (now log) at .txn) × (isChange (said (now log) at) ≡ true) × (u ≡ newestOn (pageOf (said (now log) at)) (slotOf (said (now log) at)) 0 (before (now log) at)) ⌝ }
     requires { ⌜ Met (now log) at ⌝ }
     requires { ⌜ Opens (now log) at (now opens) ⌝ }
@@ -119,7 +146,7 @@ fn kept_of(t: u64) -> u16
     if t == 0 {
         return 0;
     }
-    (t % 65534) as u16 + 1
+    (t % 65532) as u16 + 1
 }
 
 // The cell of the slot that the entry at `at` changes, if its page is one of the group; else 327680.
@@ -180,7 +207,7 @@ fn newest_back(log: &[u8], place: usize, page: u64, slot: u16) -> u64
 }
 
 // Whether the change at `at`, by transaction t, clashes; by stepping backward to the newest one on its slot.
-fn clashes_back(log: &[u8], at: usize, t: u64, opens: &[u32; 32767]) -> bool
+fn clashes_back(log: &[u8], at: usize, t: u64, opens: &[u32; 32766]) -> bool
     requires { ⌜ (t ≡ said (now log) at .txn) × (isChange (said (now log) at) ≡ true) × (isShaped (said (now log) at) ≡ true) ⌝ }
     requires { ⌜ Met (now log) at ⌝ }
     requires { ⌜ Stands (now log) at ⌝ }
@@ -192,20 +219,23 @@ fn clashes_back(log: &[u8], at: usize, t: u64, opens: &[u32; 32767]) -> bool
     clashes_with(log, at, t, u, opens)
 }
 
-// Whether the one transaction that is open by v may be what a cell keeps as x.
-fn may_be(log: &[u8], v: u32, x: u16) -> bool
+// Whether the place v may tell of a transaction other than t that a cell keeps as x.
+fn may_clash(log: &[u8], t: u64, x: u16, v: u32) -> bool
     requires { ⌜ (1 < v → v + 20 ≤ length (now log)) ⌝ }
-    ensures { λ r. ⌜ (r ≡ false → (1 < v) × (kept (numberAt 8 (v + 12) (now (log .entry))) ≡ x → ⊥)) ⌝ }
+    ensures { λ r. ⌜ (r ≡ false → Quiet (now (log .entry)) t x v) ⌝ }
 {
     if v <= 1 {
-        return true;
+        return v != 0;
     }
-    kept_of(u64_at(log, v as usize + 12)) == x
+    let u = u64_at(log, v as usize + 12);
+    if u == t {
+        return false;
+    }
+    kept_of(u) == x
 }
 
-// The same by x, which the cell of the slot keeps: no clash where no transaction of that remainder is open, nor where t alone or one that x does not keep is;
-// else the log is asked.
-fn clashes_by_cell(log: &[u8], at: usize, t: u64, x: u16, opens: &[u32; 32767]) -> bool
+// The same by x, which the cell of the slot keeps: no clash where of that remainder no transaction is open but t, or such as x does not keep; else the log is asked.
+fn clashes_by_cell(log: &[u8], at: usize, t: u64, x: u16, opens: &[u32; 32766]) -> bool
     requires { ⌜ (t ≡ said (now log) at .txn) × (isChange (said (now log) at) ≡ true) × (isShaped (said (now log) at) ≡ true) ⌝ }
     requires { ⌜ Met (now log) at ⌝ }
     requires { ⌜ Stands (now log) at ⌝ }
@@ -217,17 +247,14 @@ fn clashes_by_cell(log: &[u8], at: usize, t: u64, x: u16, opens: &[u32; 32767]) 
     if x == 0 {
         return false;
     }
-    let v = opens[(x as usize - 1) % 32767];
-    if v == 0 {
-        return false;
+    let r = (x as usize - 1) % 16383;
+    if may_clash(log, t, x, opens[r]) {
+        return clashes_back(log, at, t, opens);
     }
-    if is_of(log, t, v) {
-        return false;
+    if may_clash(log, t, x, opens[r + 16383]) {
+        return clashes_back(log, at, t, opens);
     }
-    if !may_be(log, v, x) {
-        return false;
-    }
-    clashes_back(log, at, t, opens)
+    false
 }
 
 // Whether the entry at `at` clashes on a page of the group; if it does not, its cell keeps its transaction.
@@ -240,7 +267,7 @@ fn touch(
     lo: usize,
     hi: usize,
     space: &mut [u8],
-    opens: &[u32; 32767],
+    opens: &[u32; 32766],
 ) -> bool
     requires { ⌜ (kind ≡ said (now log) at .kind) × (isShaped (said (now log) at) ≡ true) × (lo ≤ hi) × (hi ≤ 4096) ⌝ }
     requires { ⌜ (t ≡ said (now log) at .txn) × (length (now space) ≡ 655360) ⌝ }
@@ -278,7 +305,7 @@ fn clash_in(
     requires { ⌜ Blank (now space) ⌝ }
     ensures { λ r. ⌜ FirstIn lo hi (now (log .entry)) limit r ⌝ }
 {
-    let mut opens = [0u32; 32767];
+    let mut opens = [0u32; 32766];
     let mut at = FIRST;
     while at < limit {
         let v = standing(log, at);
@@ -292,7 +319,7 @@ fn clash_in(
 }
 
 // Whether the entry at `at` clashes on a page that is none of the first n.
-fn touch_beyond(log: &[u8], at: usize, kind: u8, t: u64, n: usize, opens: &[u32; 32767]) -> bool
+fn touch_beyond(log: &[u8], at: usize, kind: u8, t: u64, n: usize, opens: &[u32; 32766]) -> bool
     requires { ⌜ (kind ≡ said (now log) at .kind) × (t ≡ said (now log) at .txn) × (isShaped (said (now log) at) ≡ true) ⌝ }
     requires { ⌜ Met (now log) at ⌝ }
     requires { ⌜ Stands (now log) at ⌝ }
@@ -317,7 +344,7 @@ fn clash_beyond(log: &[u8], limit: usize, n: usize) -> usize
     requires { ⌜ Shaped (now log) limit ⌝ }
     ensures { λ r. ⌜ FirstIn n (2 ^ 64) (now (log .entry)) limit r ⌝ }
 {
-    let mut opens = [0u32; 32767];
+    let mut opens = [0u32; 32766];
     let mut at = FIRST;
     while at < limit {
         let v = standing(log, at);
