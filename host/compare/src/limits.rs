@@ -16,6 +16,13 @@ const LONGEST_TUPLE: usize = 16_316;
 const LONGEST_ENTRY: usize = 32_705;
 const SHORTEST_ENTRY: usize = 43;
 
+/// The most changes that a log has room for, of this length each.
+const MOST_CHANGES: u64 = 217_885;
+const SHORTEST_CHANGE: usize = 77;
+
+/// Numbers that differ by this have one remainder by every power of two that a table might use, by 16,383 and by 65,532.
+const STEP: u64 = 65_532 << 18;
+
 /// A case: its name, its inputs and the number that recovery answers.
 type Limit = (&'static str, fn() -> Input, u64);
 
@@ -71,10 +78,22 @@ const LIMITS: &[Limit] = &[
     ("no pages and no log", nothing, 3),
     (
         "slots handed on, numbers that collide",
-        || handed_on(false),
+        || handed_on(STEP, false),
         0,
     ),
-    ("a clash, numbers that collide", || handed_on(true), 9),
+    ("a clash, numbers that collide", || handed_on(STEP, true), 9),
+    (
+        "slots handed on, numbers that half collide",
+        || handed_on(16_383, false),
+        0,
+    ),
+    (
+        "a clash, numbers that half collide",
+        || handed_on(16_383, true),
+        9,
+    ),
+    ("the most changes", || most_changes(0), 0),
+    ("the most changes, never ended", || most_changes(1), 0),
 ];
 
 /// Seed, name and recovery's number of every case.
@@ -401,11 +420,10 @@ fn most_rows() -> Input {
     Input::new(pages, log)
 }
 
-/// Many open transactions whose numbers have one remainder by every power of two that a table might use, each with slots
-/// of its own, ended in another order than begun.
+/// Many open transactions whose numbers collide, each with slots of its own, ended in another order than begun.
 fn colliding_numbers() -> Input {
     let mut rng = Rng::new(9);
-    let numbers: Vec<u64> = (1..=900).map(|k| k << 20).collect();
+    let numbers: Vec<u64> = (1..=900).map(|k| k * STEP).collect();
     let mut log = Log::new();
     for &number in &numbers {
         log.put(Entry::bare(number, BEGIN));
@@ -431,10 +449,10 @@ fn colliding_numbers() -> Input {
     Input::new(area(12), log)
 }
 
-/// Transactions whose numbers have one remainder change the same slots one after the other while the first holds a slot of
+/// Transactions whose numbers differ by a step change the same slots one after the other while the first holds a slot of
 /// its own; the last may change that one.
-fn handed_on(clash: bool) -> Input {
-    let number = |k: u64| (k + 1) << 20;
+fn handed_on(step: u64, clash: bool) -> Input {
+    let number = |k: u64| (k + 1) * step;
     let update = |k, page, slot| Entry::update(number(k), page, slot, &tuple(38), &tuple(39));
     let mut log = Log::new();
     log.put(Entry::bare(number(0), BEGIN));
@@ -454,6 +472,22 @@ fn handed_on(clash: bool) -> Input {
     } else {
         input
     }
+}
+
+/// As many changes as fit, on few pages, by transaction 0 or by one that begins and never ends.
+fn most_changes(by: u64) -> Input {
+    let mut log = Log::new();
+    if by != 0 {
+        log.put(Entry::bare(by, BEGIN));
+    }
+    let mut changes = 0;
+    while log.room() >= SHORTEST_CHANGE {
+        let (page, slot) = (changes % 3, (changes % 100) as u16);
+        log.put(Entry::insert(by, page, slot, &tuple(24)));
+        changes += 1;
+    }
+    assert_eq!(changes + by, MOST_CHANGES);
+    Input::new(area(3), log)
 }
 
 /// Not even a header.
