@@ -29,7 +29,7 @@ fn refusal(number: u64, place: usize) -> Judged
     refused(w)
 }
 
-// Without counts.
+// A refusal, which has no counts.
 fn refused(w: Walked) -> Judged
     ensures { λ r. ⌜ r .walked ≡ w ⌝ }
 {
