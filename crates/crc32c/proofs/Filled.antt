@@ -1,16 +1,14 @@
 -- A table that a loop fills, entry by entry.
 -- Assumes nothing.
-use mathlib.Core.Path.{_≡_, refl, sym, ap, ap₂, _∙_, subst}
-use mathlib.Core.List.{List, [], _∷_}
-use mathlib.Core.Logic.{⊎-elim}
-use Prim.Native.Nat.{ℕ, zero, suc, _+_, _*_, _-_, _/_, _%_, _≤_, _<_}
+use mathlib.Core.Path.{_≡_, refl, sym, ap, ap₂, _∙_}
+use mathlib.Core.List.{List}
+use Prim.Native.Nat.{ℕ, suc, _+_, _*_, _-_, _/_, _%_, _≤_, _<_}
 use native.Mathlib.Omega.{arith}
-use native.Mathlib.Decide.{decLt}
 use lib.Bits.{bitXor, bitAnd, and-mask, mask-lt}
 use lib.ListN.{length, getD, set}
-use lib.Seq.{getD-set-same, getD-set-other}
 use Rattle.crc32c.specs.Crc.{shift, shifts, poly}
 use Rattle.crc32c.proofs.Shifts.{shifts-split, shifts-add}
+use Rattle.crc32c.proofs.Stores.{below-more}
 
 pub bit : (i r y : ℕ) → i < 8 → shifts (8 - i) r ≡ y → shifts (8 - (i + 1)) (bitXor (bitAnd r 1 * poly) (r / 2)) ≡ y
 unfolding shift shifts
@@ -31,13 +29,7 @@ abbrev pub Upto : List ℕ → ℕ → Type 0
 Upto l k = (m : ℕ) → m < k → getD l m 0 ≡ leaves m
 
 pub more : (l : List ℕ) (k v : ℕ) → k < length l → v ≡ leaves k → Upto l k → Upto (set l k v) (k + 1)
-more l k v h e u m hm = elim (decLt m k) [ yes p ↦ old p | no p ↦ new p ]
-  where
-    old : m < k → getD (set l k v) m 0 ≡ leaves m
-    old p = getD-set-other l k m v 0 (λ q. let z : m ≡ k = q in absurd (omega arith)) ∙ u m p
-
-    new : (m < k → ⊥) → getD (set l k v) m 0 ≡ leaves m
-    new p = let z : m ≡ k = omega arith in ap (λ (n : ℕ). getD (set l k v) n 0) z ∙ getD-set-same l k v 0 h ∙ e ∙ ap leaves (sym z)
+more l k v h e u = below-more l leaves k v h e u
 
 pub first : (k r : ℕ) → k < 256 → r ≡ shifts 8 k → r ≡ leaves k
 first k r h e =

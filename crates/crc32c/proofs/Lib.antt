@@ -2,6 +2,9 @@ pub mod Xor
 pub mod Shifts
 pub mod Slices
 pub mod Runs
-pub mod Lanes
 pub mod Filled
 pub mod Range
+pub mod Over
+pub mod Cancel
+pub mod Sparse
+pub mod Stores

@@ -83,3 +83,6 @@ piece s i n c r e =
 -- `&s[i..]` is the rest
 pub rest : (s : List ℕ) (i c : ℕ) → fed c (take (length s - i) (drop i s)) ≡ fed c (drop i s)
 rest s i c = ap (fed c) (take-all (length s - i) (drop i s) (simp length-drop (omega arith)))
+
+pub part-length : (s : List ℕ) (i n : ℕ) → i + n ≤ length s → length (take n (drop i s)) ≡ n
+part-length s i n h = length-take-le n (drop i s) (simp length-drop (omega arith))

@@ -1,10 +1,12 @@
-// The checksum over lent tables: eight bytes at a time, and a page's body in four lanes side by side.
+// The checksum over lent tables: eight bytes at a time; long runs are first shortened by a sparse multiple of the polynomial, which needs no table.
 ghost use mathlib.Core.Path.{_≡_};
 ghost use Prim.Native.Nat.{ℕ, _+_, _*_, _%_, _^_, _<_, _≤_};
-ghost use mathlib.Core.List.{_++_};
+ghost use mathlib.Core.List.{List, _++_};
 ghost use lib.ListN.{length, take, drop};
 ghost use Rattle.crc32c.specs.Crc.{shifts, fed, crc32c as crcOf};
 ghost use Rattle.crc32c.specs.Tables.{Tables};
+ghost use Rattle.crc32c.specs.Sparse.{Filled, Room, carried};
+use endian::inner::put_u32;
 use endian::inner::u64_at;
 
 // What the byte x leaves after one byte.
@@ -95,55 +97,118 @@ fn words(t: &[u32; 2048], start: u32, s: &[u8]) -> u32
     c
 }
 
-// A register after 4,080 zero bytes: the sum of what each of its bits leaves, the low bit first. 3C1B4ED9 hex is what the top bit leaves.
-fn past(c: u32) -> u32
-    ensures { λ r. ⌜ r ≡ shifts 32640 c ⌝ }
+// The bytes of s go behind the 418 of the history, each with what five earlier ones leave for it.
+fn fill(p: &mut [u8; 2402], s: &[u8])
+    requires { ⌜ length (now s) ≤ 1984 ⌝ }
+    requires { ⌜ Room 2402 (now p) ⌝ }
+    ensures { λ _. ⌜ Filled 2 (length (now (s .entry))) (now (p .entry)) (now (s .entry)) (now (p .exit)) ⌝ }
+    ensures { λ _. ⌜ Room 2402 (now (p .exit)) ⌝ }
 {
-    let mut m = c;
-    let mut r: u32 = 0;
+    let mut j: usize = 0;
+    while j < s.len() {
+        p[j + 418] = s[j] ^ (p[j + 288] ^ (p[j + 108] ^ (p[j + 78] ^ (p[j + 28] ^ p[j]))));
+        j += 1;
+    }
+}
+
+// The last 418 bytes are the history of the next chunk.
+fn back(p: &mut [u8; 2402])
+    requires { ⌜ Room 2402 (now p) ⌝ }
+    ensures { λ _. ⌜ take 418 (now (p .exit)) ≡ take 418 (drop 1984 (now (p .entry))) ⌝ }
+    ensures { λ _. ⌜ Room 2402 (now (p .exit)) ⌝ }
+{
     let mut i: usize = 0;
-    while i < 32 {
-        r = ((m & 1) * 0x3C1B_4ED9) ^ (((r & 1) * 0x82F6_3B78) ^ (r >> 1));
-        m = m >> 1;
+    while i < 418 {
+        p[i] = p[i + 1984];
         i += 1;
     }
-    r
 }
 
-// The register c after four runs of 4,080 bytes, each run from a register of its own.
-fn lanes(t: &[u32; 2048], c: u32, p: &[u8], q: &[u8], u: &[u8], v: &[u8]) -> u32
-    requires { ⌜ Tables (now t) ⌝ }
-    requires { ⌜ (length (now p) ≡ 4080) × (length (now q) ≡ 4080) × (length (now u) ≡ 4080) × (length (now v) ≡ 4080) ⌝ }
-    ensures { λ r. ⌜ r ≡ fed c (((now (p .entry) ++ now (q .entry)) ++ now (u .entry)) ++ now (v .entry)) ⌝ }
+fn chunk(p: &mut [u8; 2402], s: &[u8])
+    requires { ⌜ length (now s) ≡ 1984 ⌝ }
+    requires { ⌜ Room 2402 (now p) ⌝ }
+    ensures { λ _. ⌜ ((r : List ℕ) → 418 ≤ length r → carried (now (p .exit)) r ≡ carried (now (p .entry)) (now (s .entry) ++ r)) ⌝ }
+    ensures { λ _. ⌜ Room 2402 (now (p .exit)) ⌝ }
 {
-    let mut x = c;
-    let mut y: u32 = 0;
-    let mut z: u32 = 0;
-    let mut w: u32 = 0;
-    let mut i: usize = 0;
-    while i < 4080 {
-        x = word(t, x, p, i);
-        y = word(t, y, q, i);
-        z = word(t, z, u, i);
-        w = word(t, w, v, i);
-        i += 8;
-    }
-    past(past(past(x) ^ y) ^ z) ^ w
+    fill(p, s);
+    back(p);
 }
 
-// The register c after 16,320 bytes, the body of a page.
-fn block(t: &[u32; 2048], c: u32, s: &[u8]) -> u32
-    requires { ⌜ Tables (now t) × (length (now s) ≡ 16320) ⌝ }
+// The history from n on goes into the 448 bytes behind it.
+fn mix(p: &[u8; 2402], n: usize, s: &[u8], o: &mut [u8; 448])
+    requires { ⌜ (n ≤ 1984) × (length (now s) ≡ 448) ⌝ }
+    requires { ⌜ Room 2402 (now p) × Room 448 (now o) ⌝ }
+    ensures { λ _. ⌜ fed 0 (now (o .exit)) ≡ carried (drop n (now (p .entry))) (now (s .entry)) ⌝ }
+    ensures { λ _. ⌜ Room 448 (now (o .exit)) ⌝ }
+{
+    let mut z = [0u8; 736];
+    let mut i: usize = 0;
+    'copy: while i < 418 {
+        z[i] = p[i + n];
+        i += 1;
+    }
+    let mut j: usize = 0;
+    'mix: while j < 448 {
+        o[j] = s[j] ^ (z[j + 288] ^ (z[j + 108] ^ (z[j + 78] ^ (z[j + 28] ^ z[j]))));
+        j += 1;
+    }
+}
+
+// 448 bytes from the register 0 are 224.
+fn near(s: &[u8; 448], o: &mut [u8; 224])
+    requires { ⌜ length (now o) ≡ 224 ⌝ }
+    requires { ⌜ Room 448 (now s) ⌝ }
+    ensures { λ _. ⌜ fed 0 (now (o .exit)) ≡ fed 0 (now (s .entry)) ⌝ }
+{
+    let mut p = [0u8; 592];
+    let mut j: usize = 0;
+    'fill: while j < 224 {
+        p[j + 209] = s[j] ^ (p[j + 144] ^ (p[j + 54] ^ (p[j + 39] ^ (p[j + 14] ^ p[j]))));
+        j += 1;
+    }
+    let mut i: usize = 0;
+    'mix: while i < 224 {
+        o[i] = s[i + 224] ^ (p[i + 368] ^ (p[i + 278] ^ (p[i + 263] ^ (p[i + 238] ^ p[i + 224]))));
+        i += 1;
+    }
+}
+
+fn short(t: &[u32; 2048], s: &[u8; 224]) -> u32
+    requires { ⌜ Tables (now t) ⌝ }
+    ensures { λ r. ⌜ r ≡ fed 0 (now (s .entry)) ⌝ }
+{
+    words(t, 0, s)
+}
+
+// The register after the last 448 bytes.
+fn tail(t: &[u32; 2048], p: &[u8; 2402], n: usize, s: &[u8]) -> u32
+    requires { ⌜ Tables (now t) × (n ≤ 1984) × (length (now s) ≡ 448) ⌝ }
+    requires { ⌜ Room 2402 (now p) ⌝ }
+    ensures { λ r. ⌜ r ≡ carried (drop n (now (p .entry))) (now (s .entry)) ⌝ }
+{
+    let mut o = [0u8; 448];
+    mix(p, n, s, &mut o);
+    let mut q = [0u8; 224];
+    near(&o, &mut q);
+    short(t, &q)
+}
+
+// The register c after the bytes of s, of which there are at least 448. It stands in the first four bytes of the history.
+fn long(t: &[u32; 2048], c: u32, s: &[u8]) -> u32
+    requires { ⌜ Tables (now t) × (448 ≤ length (now s)) ⌝ }
     ensures { λ r. ⌜ r ≡ fed c (now (s .entry)) ⌝ }
 {
-    lanes(
-        t,
-        c,
-        &s[0..4080],
-        &s[4080..8160],
-        &s[8160..12240],
-        &s[12240..16320],
-    )
+    let mut p = [0u8; 2402];
+    put_u32(&mut p, 0, c);
+    let e = s.len() - 448;
+    let mut i: usize = 0;
+    while 1984 <= e - i {
+        let k = i + 1984;
+        chunk(&mut p, &s[i..k]);
+        i = k;
+    }
+    fill(&mut p, &s[i..e]);
+    tail(t, &p, e - i, &s[e..])
 }
 
 // The register start after the bytes of s.
@@ -151,14 +216,10 @@ pub fn update(t: &[u32; 2048], start: u32, s: &[u8]) -> u32
     requires { ⌜ Tables (now t) ⌝ }
     ensures { λ r. ⌜ r ≡ fed start (now (s .entry)) ⌝ }
 {
-    let mut c = start;
-    let mut i = 0;
-    while 16320 <= s.len() - i {
-        let e = i + 16320;
-        c = block(t, c, &s[i..e]);
-        i = e;
+    if s.len() < 640 {
+        return words(t, start, s);
     }
-    words(t, c, &s[i..])
+    long(t, start, s)
 }
 
 // The checksum of s.

@@ -5,7 +5,7 @@ use mathlib.Core.List.{List}
 use native.Mathlib.Omega.{arith}
 use lib.ListN.{length}
 use Rattle.endian.specs.Numbers.{part}
-use Rattle.crc32c.proofs.Lanes.{part-length}
+use Rattle.crc32c.proofs.Runs.{part-length}
 use Rattle.rules.specs.Shape.{stamped}
 use Rattle.rules.proofs.Tests.{false-true}
 use Rattle.rules.proofs.ImageLaws.{stamped-length}

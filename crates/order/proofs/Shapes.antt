@@ -12,7 +12,7 @@ use borrow.Author.Tests.{eqb-true, eq-eqb, ne-eqb, lt-leb, le-leb}
 use Rattle.endian.specs.Numbers.{part, numberOf, numberAt, Bytes}
 use Rattle.endian.proofs.Places.{part-take, part-drop, drop-part}
 use Rattle.endian.proofs.Bytes.{bytes-take, bytes-drop}
-use Rattle.crc32c.proofs.Lanes.{part-length}
+use Rattle.crc32c.proofs.Runs.{part-length}
 use Rattle.wal.specs.Entry.{keyPart, oldPart, newPart, entryOf, insert, delete, update, checkpoint}
 use Rattle.wal.specs.declared.EntryView.{EntryView}
 use Rattle.wal.proofs.WalkLaws.{EntryAt}

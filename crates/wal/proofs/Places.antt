@@ -4,7 +4,7 @@ use mathlib.Core.Path.{_≡_, refl, sym, subst}
 use mathlib.Core.List.{List, [], _∷_, _++_, map, append-nil}
 use native.Mathlib.Omega.{arith}
 use lib.ListN.{length}
-use Rattle.crc32c.proofs.Lanes.{part-length}
+use Rattle.crc32c.proofs.Runs.{part-length}
 use Rattle.wal.specs.Entry.{Entry, sizeOf, sizesOf, keyPart, oldPart, newPart, entryOf, viewOf, viewsOf}
 use Rattle.wal.specs.Walk.{viewsFrom, views, endFrom, endOf, entries}
 use Rattle.wal.specs.declared.EntryView.{EntryView}

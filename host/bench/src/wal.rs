@@ -153,7 +153,7 @@ fn best(mut pass: impl FnMut() -> usize) -> f64 {
 
 fn main() {
     println!("Walk over a log of 16 MiB, best of 5: million entries/s, MB/s (ratio to Rust with slicing by 8).");
-    println!("The proved walk slices by 8 too, from 16,320 bytes on in four lanes.");
+    println!("The proved walk slices by 8 too, from 640 bytes on after a sparse multiple of the polynomial.");
     println!(
         "{:>12}  {:>24}  {:>24}  {:>24}",
         "entry bytes", "proved", "Rust, slicing by 8", "Rust, machine's crc32"

@@ -1,0 +1,398 @@
+-- Runs that the sparse multiple shortens: a chunk goes into the history behind it, and the register of what is left is the same.
+-- Assumes nothing.
+use mathlib.Core.Path.{_≡_, refl, sym, ap, ap₂, _∙_, subst}
+use mathlib.Core.List.{List, [], _++_, append-nil}
+use Prim.Native.Nat.{ℕ, zero, suc, _+_, _*_, _-_, _^_, _≤_, _<_}
+use native.Mathlib.Nat.{add-zero}
+use native.Mathlib.Omega.{arith}
+use native.Mathlib.Decide.{decLt}
+use lib.Bits.{bitXor, xor-comm, xor-self, xor-zero-r, xor-zero-l}
+use lib.ListN.{length, take, drop, getD, length-append, length-drop, take-append-drop, replicate, length-replicate, List·getD-append, List·getD-eq-default}
+use lib.Seq.{getD-take, getD-drop, getD-append-add, length-take-le, ext-getD, drop-drop, take-all, take-take, take-length, paste}
+use Rattle.endian.specs.Numbers.{Bytes, bytesOf}
+use Rattle.endian.proofs.Bytes.{bytes-drop, bytes-take, bytes-of, bytes-append, bytes-zeros}
+use Rattle.endian.proofs.Numbers.{number-back, length-bytesOf}
+use Rattle.endian.proofs.Places.{part-take}
+use Rattle.crc32c.specs.Crc.{shifts, fed}
+use Rattle.crc32c.specs.Sparse.{over, pull, residue, carried, Filled, Room}
+use Rattle.crc32c.proofs.Xor.{xor-assoc}
+use Rattle.crc32c.proofs.Shifts.{shifts-xor, shifts-zero, shifts-add}
+use Rattle.crc32c.proofs.Range.{fed-lt}
+use Rattle.crc32c.proofs.Runs.{run, word, word-number}
+use Rattle.crc32c.proofs.Over.{over-same, over-xor, over-add, over-fed, over-from, over-late, over-end}
+use Rattle.crc32c.proofs.Cancel.{pull-same, pull-xor, pull-shifts, pull-at, Top, six-none, top-1, top-2}
+use Rattle.crc32c.proofs.Stores.{Below, Above}
+
+-- (a ^ r) ^ b is r ^ (a ^ b)
+swap : (a r b : ℕ) → bitXor (bitXor a r) b ≡ bitXor r (bitXor a b)
+swap a r b = ap (λ (y : ℕ). bitXor y b) (xor-comm a r) ∙ xor-assoc r a b
+
+twice : (a b : ℕ) → bitXor a (bitXor a b) ≡ b
+twice a b = sym (xor-assoc a a b) ∙ ap (λ (y : ℕ). bitXor y b) (xor-self a) ∙ xor-zero-l b
+
+-- the six places cancel, e bytes later too
+six-later : (k x e : ℕ) → Top k → x < 2 ^ 32 → bitXor (shifts (8 * (209 * k + e)) x) (pull k (λ i. shifts (8 * i) x) e) ≡ 0
+six-later k x e top h =
+    let g : ℕ → ℕ = λ i. shifts (8 * i) x in
+    let e1 : 8 * (209 * k + e) ≡ 8 * (209 * k) + 8 * e = omega arith in
+    ap₂ bitXor (ap (λ (n : ℕ). shifts n x) e1 ∙ shifts-add (8 * (209 * k)) (8 * e) x)
+    (ap (pull k g) (sym (add-zero e)) ∙ sym (pull-at k e g 0)
+    ∙ pull-same k (λ i. g (e + i)) (λ i. shifts (8 * e) (g i)) 0 (λ i. later i)
+    ∙ pull-shifts k (8 * e) g 0)
+    ∙ sym (shifts-xor (8 * e) (shifts (8 * (209 * k)) x) (pull k g 0))
+    ∙ ap (shifts (8 * e)) (six-none k top x h) ∙ shifts-zero (8 * e)
+  where
+    later : (i : ℕ) → shifts (8 * (e + i)) x ≡ shifts (8 * e) (shifts (8 * i) x)
+    later i =
+        let e2 : 8 * (e + i) ≡ 8 * i + 8 * e = omega arith in
+        ap (λ (n : ℕ). shifts n x) e2 ∙ shifts-add (8 * i) (8 * e) x
+
+-- past the end of a list
+past-end : (l : List ℕ) (i : ℕ) → length l ≤ i → getD l i 0 ≡ 0
+past-end l i h = List·getD-eq-default l 0 h
+
+-- ---- one chunk of n bytes behind a history of 209 * k
+
+module _ (k n : ℕ) (p s r : List ℕ) (lp : length p ≡ 209 * k + n) (ls : length s ≡ n) (lr : 209 * k ≤ length r) where
+  abbrev P : ℕ → ℕ
+  P i = getD p i 0
+
+  -- the history before the chunk, and behind it
+  abbrev H : ℕ → ℕ
+  H i = getD (take (209 * k) p) i 0
+
+  abbrev H' : ℕ → ℕ
+  H' i = getD (take (209 * k) (drop n p)) i 0
+
+  abbrev X : ℕ → ℕ
+  X i = bitXor (P i) (H i)
+
+  abbrev q : List ℕ
+  q = drop (209 * k) p
+
+  abbrev e : ℕ
+  e = length r - 209 * k
+
+  h-length : length (take (209 * k) p) ≡ 209 * k
+  h-length = length-take-le (209 * k) p (omega arith)
+
+  q-length : length q ≡ n
+  q-length = simp length-drop (omega arith)
+
+  X-low : (i : ℕ) → i < 209 * k → X i ≡ 0
+  X-low i h = ap (bitXor (P i)) (getD-take (209 * k) p i 0 h) ∙ xor-self (P i)
+
+  X-high : (i : ℕ) → X (209 * k + i) ≡ getD q i 0
+  X-high i =
+      ap (bitXor (P (209 * k + i))) (past-end (take (209 * k) p) (209 * k + i) (omega (arith, h-length)))
+      ∙ xor-zero-r (P (209 * k + i)) ∙ sym (getD-drop (209 * k) p i 0)
+
+  behind : (i : ℕ) → P (n + i) ≡ H' i
+  behind i = elim (decLt i (209 * k)) [ yes l ↦ in-it l | no l ↦ out l ]
+    where
+      in-it : i < 209 * k → P (n + i) ≡ H' i
+      in-it l = sym (getD-take (209 * k) (drop n p) i 0 l ∙ getD-drop n p i 0)
+
+      out : (i < 209 * k → ⊥) → P (n + i) ≡ H' i
+      out l =
+          past-end p (n + i) (omega arith)
+          ∙ sym (past-end (take (209 * k) (drop n p)) i (omega (arith, length-take-le (209 * k) (drop n p) (simp length-drop (omega arith)))))
+
+  -- what one of the five places leaves
+  place : (d b : ℕ) → d + b ≡ 209 * k → over 0 (λ j. X (j + b)) (n + length r) ≡ shifts (8 * (e + b)) (fed 0 q)
+  place d b h =
+      let e1 : n + length r ≡ d + (n + (e + b)) = omega arith in
+      ap (over 0 (λ j. X (j + b))) e1
+      ∙ over-late d (n + (e + b)) (λ j. X (j + b)) (λ j l. X-low (j + b) (omega arith))
+      ∙ over-same (n + (e + b)) 0 (λ j. X (d + j + b)) (λ j. getD q j 0) (λ j l. at j)
+      ∙ over-end n (e + b) 0 (λ j. getD q j 0) (λ j. past-end q (n + j) (omega (arith, q-length)))
+      ∙ ap (shifts (8 * (e + b))) (ap (over 0 (λ j. getD q j 0)) (sym q-length) ∙ over-fed q 0)
+    where
+      at : (j : ℕ) → X (d + j + b) ≡ getD q j 0
+      at j = let e2 : d + j + b ≡ 209 * k + j = omega arith in ap X e2 ∙ X-high j
+
+  place-0 : over 0 (λ j. X j) (n + length r) ≡ shifts (8 * e) (fed 0 q)
+  place-0 =
+      over-same (n + length r) 0 (λ j. X j) (λ j. X (j + 0)) (λ j l. ap X (sym (add-zero j))) ∙ place (209 * k) 0 (omega arith)
+      ∙ ap (λ (m : ℕ). shifts (8 * m) (fed 0 q)) (add-zero e)
+
+  places : over 0 (λ j. pull k X j) (n + length r) ≡ pull k (λ i. shifts (8 * i) (fed 0 q)) e
+  unfolding pull
+  places =
+      over-xor (n + length r) 0 0 (λ j. X (j + 144 * k)) _
+      ∙ ap₂ bitXor (place (65 * k) (144 * k) (omega arith))
+      (over-xor (n + length r) 0 0 (λ j. X (j + 54 * k)) _
+      ∙ ap₂ bitXor (place (155 * k) (54 * k) (omega arith))
+      (over-xor (n + length r) 0 0 (λ j. X (j + 39 * k)) _
+      ∙ ap₂ bitXor (place (170 * k) (39 * k) (omega arith))
+      (over-xor (n + length r) 0 0 (λ j. X (j + 14 * k)) (λ j. X j)
+      ∙ ap₂ bitXor (place (195 * k) (14 * k) (omega arith)) place-0)))
+
+  module _ (top : Top k) (bp : Bytes p) (each : (j : ℕ) → j < n → getD p (j + 209 * k) 0 ≡ bitXor (getD s j 0) (pull k P j)) where
+    abbrev F : ℕ → ℕ
+    F j = bitXor (getD (s ++ r) j 0) (pull k P j)
+
+    abbrev E' : ℕ → ℕ
+    E' j = bitXor (getD r j 0) (pull k H' j)
+
+    F-front : (j : ℕ) → j < n → F j ≡ getD q j 0
+    F-front j l =
+        let e1 : j + 209 * k ≡ 209 * k + j = omega arith in
+        ap (λ (y : ℕ). bitXor y (pull k P j)) (List·getD-append s r 0 j (omega arith)) ∙ sym (each j l)
+        ∙ ap P e1 ∙ sym (getD-drop (209 * k) p j 0)
+
+    F-behind : (j : ℕ) → F (n + j) ≡ E' j
+    F-behind j =
+        ap₂ bitXor (ap (λ (m : ℕ). getD (s ++ r) (m + j) 0) (sym ls) ∙ getD-append-add s r j 0)
+        (sym (pull-at k n P j) ∙ pull-same k (λ i. P (n + i)) H' j behind)
+
+    F-whole : over 0 F (n + length r) ≡ bitXor (shifts (8 * length r) (fed 0 q)) (over 0 E' (length r))
+    F-whole =
+        over-add n (length r) 0 F
+        ∙ ap (λ (y : ℕ). over y (λ j. F (n + j)) (length r))
+        (over-same n 0 F (λ j. getD q j 0) F-front ∙ ap (over 0 (λ j. getD q j 0)) (sym q-length) ∙ over-fed q 0)
+        ∙ over-same (length r) (fed 0 q) (λ j. F (n + j)) E' (λ j l. F-behind j)
+        ∙ over-from (length r) (fed 0 q) E'
+
+    splits : (j : ℕ) → bitXor (getD (s ++ r) j 0) (pull k H j) ≡ bitXor (F j) (pull k X j)
+    splits j =
+        ap (bitXor (getD (s ++ r) j 0))
+        (pull-same k H (λ i. bitXor (P i) (X i)) j (λ i. sym (twice (P i) (H i))) ∙ pull-xor k P X j)
+        ∙ sym (xor-assoc (getD (s ++ r) j 0) (pull k P j) (pull k X j))
+
+    pub chunk : residue k (take (209 * k) (drop n p)) r ≡ residue k (take (209 * k) p) (s ++ r)
+    unfolding residue
+    chunk =
+        let R = over 0 E' (length r) in
+        let x = fed 0 q in
+        let G = pull k (λ i. shifts (8 * i) x) e in
+        let el : length (s ++ r) ≡ n + length r = length-append s r ∙ ap (λ (m : ℕ). m + length r) ls in
+        let er : length r ≡ 209 * k + e = omega arith in
+        sym (ap (over 0 (λ j. bitXor (getD (s ++ r) j 0) (pull k H j))) el
+        ∙ over-same (n + length r) 0 _ (λ j. bitXor (F j) (pull k X j)) (λ j l. splits j)
+        ∙ over-xor (n + length r) 0 0 F (λ j. pull k X j)
+        ∙ ap₂ bitXor F-whole places
+        ∙ swap (shifts (8 * length r) x) R G
+        ∙ ap (bitXor R)
+        (ap (λ (m : ℕ). bitXor (shifts (8 * m) x) G) er
+        ∙ six-later k x e top (fed-lt 0 q (omega arith) (bytes-drop (209 * k) bp)))
+        ∙ xor-zero-r R)
+
+-- `pull` reads nothing from the place 209 * k further on
+pull-upto : (k n j : ℕ) (f g : ℕ → ℕ) → 0 < k → j + 209 * k ≤ n → ((i : ℕ) → i < n → f i ≡ g i) → pull k f j ≡ pull k g j
+unfolding pull
+pull-upto k n j f g hk l h =
+    ap₂ bitXor (h _ (omega arith))
+    (ap₂ bitXor (h _ (omega arith)) (ap₂ bitXor (h _ (omega arith)) (ap₂ bitXor (h _ (omega arith)) (h _ (omega arith)))))
+
+pull-none : (k : ℕ) (f : ℕ → ℕ) (j : ℕ) → ((i : ℕ) → f (j + i) ≡ 0) → pull k f j ≡ 0
+unfolding pull
+pull-none k f j h =
+    ap₂ bitXor (h _) (ap₂ bitXor (h _) (ap₂ bitXor (h _) (ap₂ bitXor (h _) (ap f (sym (add-zero j)) ∙ h 0))))
+
+-- ---- as the code has them
+
+pub zeros-at : (n m : ℕ) → getD {A = ℕ} (replicate n 0) m 0 ≡ 0
+zeros-at zero m = refl
+zeros-at (suc n) zero = refl
+zeros-at (suc n) (suc m) = zeros-at n m
+
+-- the first a elements as a list of their own, given by its elements
+front-at : (l z : List ℕ) (a : ℕ) → a ≤ length l → Below z (λ m. getD l m 0) a → Above z (λ m. 0) a → (i : ℕ) → getD z i 0 ≡ getD (take a l) i 0
+front-at l z a h below above i = elim (decLt i a) [ yes b ↦ low b | no b ↦ high b ]
+  where
+    low : i < a → getD z i 0 ≡ getD (take a l) i 0
+    low b = below i b ∙ sym (getD-take a l i 0 b)
+
+    high : (i < a → ⊥) → getD z i 0 ≡ getD (take a l) i 0
+    high b = above i (omega arith) ∙ sym (past-end (take a l) i (omega (arith, length-take-le a l h)))
+
+-- n bytes of s behind the history of h, in a list that may be longer
+filled-chunk : (k n : ℕ) (h s p r : List ℕ) → 0 < k → Top k → 209 * k ≤ length h → 209 * k + n ≤ length p → n ≤ length s → 209 * k ≤ length r → Bytes p
+    → Filled k n h s p → residue k (take (209 * k) (drop n p)) r ≡ residue k (take (209 * k) h) (take n s ++ r)
+filled-chunk k n h s p r hk top lh lp ls lr bp f =
+    ap (λ (l : List ℕ). residue k l r) (sym (part-take n (209 * k) (209 * k + n) p (omega arith)))
+    ∙ chunk k n p1 (take n s) r (length-take-le (209 * k + n) p lp) (length-take-le n s ls) lr top (bytes-take (209 * k + n) bp) each
+    ∙ ap (λ (l : List ℕ). residue k l (take n s ++ r)) (take-take (209 * k) (209 * k + n) p (omega arith) ∙ front)
+  where
+    p1 : List ℕ
+    p1 = take (209 * k + n) p
+
+    at : (i : ℕ) → i < 209 * k + n → getD p i 0 ≡ getD p1 i 0
+    at i b = sym (getD-take (209 * k + n) p i 0 b)
+
+    each : (j : ℕ) → j < n → getD p1 (j + 209 * k) 0 ≡ bitXor (getD (take n s) j 0) (pull k (λ i. getD p1 i 0) j)
+    each j b =
+        sym (at (j + 209 * k) (omega arith)) ∙ f .each j b
+        ∙ ap₂ bitXor (sym (getD-take n s j 0 b)) (pull-upto k (209 * k + n) j (λ i. getD p i 0) (λ i. getD p1 i 0) hk (omega arith) at)
+
+    front : take (209 * k) p ≡ take (209 * k) h
+    front =
+        let eh : length (take (209 * k) h) ≡ 209 * k = length-take-le (209 * k) h lh in
+        let ep : length (take (209 * k) p) ≡ 209 * k = length-take-le (209 * k) p (omega arith) in
+        ext-getD 0 (take (209 * k) p) (take (209 * k) h) (omega arith)
+        (λ i l.
+        let b : i < 209 * k = omega arith in
+        getD-take (209 * k) p i 0 b ∙ f .front i b ∙ sym (getD-take (209 * k) h i 0 b))
+
+pub chunked : (h s p r : List ℕ) → Room 2402 h → Room 2402 p → length s ≤ 1984 → 418 ≤ length r
+    → Filled 2 (length s) h s p → carried (drop (length s) p) r ≡ carried h (s ++ r)
+unfolding carried
+chunked h s p r rh rp ls lr f =
+    filled-chunk 2 (length s) h s p r (omega arith) top-2 (omega (arith, rh .size)) (omega (arith, rp .size)) (omega arith) lr (rp .bytes) f
+    ∙ ap (λ (l : List ℕ). residue 2 (take 418 h) (l ++ r)) (take-length s)
+
+-- the last 418 bytes moved to the front
+pub carried-moved : (o p r : List ℕ) (n : ℕ) → take 418 o ≡ take 418 (drop n p) → carried o r ≡ carried (drop n p) r
+unfolding carried
+carried-moved o p r n e = ap (λ (l : List ℕ). residue 2 l r) e
+
+pub mixed : (p s z o : List ℕ) (n : ℕ) → Room 2402 p → n ≤ 1984 → length s ≡ 448 → length o ≡ 448 → Below z (λ m. getD p (m + n) 0) 418 → Above z (λ m. 0) 418
+    → Below o (λ m. bitXor (getD s m 0) (pull 2 (λ i. getD z i 0) m)) 448 → fed 0 o ≡ carried (drop n p) s
+unfolding carried residue
+mixed p s z o n rp hn ls lo below above each =
+    let l : 418 ≤ length (drop n p) = simp length-drop (omega (arith, rp .size)) in
+    let E : ℕ → ℕ = λ j. bitXor (getD s j 0) (pull 2 (λ i. getD (take 418 (drop n p)) i 0) j) in
+    sym (over-fed o 0)
+    ∙ over-same (length o) 0 (λ j. getD o j 0) E
+    (λ j lj.
+    each j (omega arith)
+    ∙ ap (bitXor (getD s j 0))
+    (pull-same 2 (λ i. getD z i 0) (λ i. getD (take 418 (drop n p)) i 0) j (front-at (drop n p) z 418 l (λ m b. below m b ∙ there m) above)))
+    ∙ ap (over 0 E) (lo ∙ sym ls)
+  where
+    there : (m : ℕ) → getD p (m + n) 0 ≡ getD (drop n p) m 0
+    there m = let e : m + n ≡ n + m = omega arith in ap (λ (y : ℕ). getD p y 0) e ∙ sym (getD-drop n p m 0)
+
+-- no history
+none : (k : ℕ) (h r : List ℕ) → ((i : ℕ) → getD h i 0 ≡ 0) → residue k h r ≡ fed 0 r
+unfolding residue
+none k h r e =
+    over-same (length r) 0 _ (λ j. getD r j 0)
+    (λ j l. ap (bitXor (getD r j 0)) (pull-none k (λ i. getD h i 0) j (λ i. e (j + i))) ∙ xor-zero-r (getD r j 0))
+    ∙ over-fed r 0
+
+pub nearer : (s p o : List ℕ) → Room 592 p → length s ≡ 448 → length o ≡ 224 → Filled 1 224 (replicate 592 0) s p → Above p (λ m. 0) 433
+    → Below o (λ m. bitXor (getD s (m + 224) 0) (bitXor (getD p (m + 368) 0) (bitXor (getD p (m + 278) 0) (bitXor (getD p (m + 263) 0) (bitXor (getD p (m + 238) 0) (getD p (m + 224) 0)))))) 224
+    → fed 0 o ≡ fed 0 s
+unfolding residue pull
+nearer s p o rp ls lo f above each =
+    sym (over-fed o 0) ∙ over-same (length o) 0 (λ j. getD o j 0) E (λ j l. at j (omega arith))
+    ∙ ap (over 0 E) (lo ∙ sym l2)
+    ∙ filled-chunk 1 224 (replicate 592 0) s p (drop 224 s) (omega arith) top-1 (omega arith) (omega (arith, rp .size)) (omega arith) (omega (arith, l2)) (rp .bytes) f
+    ∙ ap (residue 1 (take 209 (replicate 592 0))) (take-append-drop 224 s) ∙ none 1 (take 209 (replicate 592 0)) s (zeros-at 209)
+  where
+    H : ℕ → ℕ
+    H i = getD (take 209 (drop 224 p)) i 0
+
+    E : ℕ → ℕ
+    E j = bitXor (getD (drop 224 s) j 0) (pull 1 H j)
+
+    l2 : length (drop 224 s) ≡ 224
+    l2 = simp length-drop (omega arith)
+
+    go : (j a b : ℕ) → j + (224 + a) ≡ b → getD p b 0 ≡ H (j + a)
+    go j a b e =
+        let e1 : b ≡ 224 + (j + a) = omega arith in
+        ap (λ (m : ℕ). getD p m 0) e1 ∙ sym (getD-drop 224 p (j + a) 0)
+        ∙ front-at (drop 224 p) (drop 224 p) 209 (simp length-drop (omega (arith, rp .size))) (λ m l. refl)
+        (λ m l. getD-drop 224 p m 0 ∙ above (224 + m) (omega arith)) (j + a)
+
+    at : (j : ℕ) → j < 224 → getD o j 0 ≡ E j
+    at j b =
+        let e0 : j + 224 ≡ 224 + j = omega arith in
+        each j b
+        ∙ ap₂ bitXor (ap (λ (m : ℕ). getD s m 0) e0 ∙ sym (getD-drop 224 s j 0))
+        (ap₂ bitXor (go j 144 (j + 368) (omega arith))
+        (ap₂ bitXor (go j 54 (j + 278) (omega arith))
+        (ap₂ bitXor (go j 39 (j + 263) (omega arith))
+        (ap₂ bitXor (go j 14 (j + 238) (omega arith)) (go j 0 (j + 224) (omega arith) ∙ ap H (add-zero j))))))
+
+-- ---- the start: the register stands in the first four bytes of the history
+
+abbrev begun : ℕ → List ℕ
+begun c = paste (replicate 2402 0) 0 (bytesOf 4 c) 4
+
+begun-is : (c : ℕ) → begun c ≡ bytesOf 4 c ++ replicate 2398 0
+unfolding bytesOf
+begun-is c = refl
+
+pub begun-room : (c : ℕ) → Room 2402 (begun c)
+begun-room c =
+    subst (Room 2402) (sym (begun-is c))
+    (record {
+      size = length-append (bytesOf 4 c) (replicate 2398 0) ∙ ap₂ (λ (m n : ℕ). m + n) (length-bytesOf 4 c) (length-replicate {A = ℕ} 2398 0);
+      bytes = bytes-append (bytes-of 4 c) (bytes-zeros 2398);
+    })
+
+begun-at : (c i : ℕ) → getD (take 418 (begun c)) i 0 ≡ getD (bytesOf 4 c) i 0
+begun-at c i =
+    sym (front-at (begun c) (bytesOf 4 c) 418 (omega (arith, begun-room c .size))
+    (λ m b. sym (ap (λ (l : List ℕ). getD l m 0) (begun-is c) ∙ low m)) (λ m b. past-end (bytesOf 4 c) m (omega (arith, length-bytesOf 4 c))) i)
+  where
+    low : (m : ℕ) → getD (bytesOf 4 c ++ replicate 2398 0) m 0 ≡ getD (bytesOf 4 c) m 0
+    low m = elim (decLt m 4) [ yes b ↦ List·getD-append (bytesOf 4 c) (replicate 2398 0) 0 m (omega (arith, length-bytesOf 4 c)) | no b ↦ high b ]
+      where
+        high : (m < 4 → ⊥) → getD (bytesOf 4 c ++ replicate 2398 0) m 0 ≡ getD (bytesOf 4 c) m 0
+        high b =
+            let e : m ≡ length (bytesOf 4 c) + (m - 4) = omega (arith, length-bytesOf 4 c) in
+            ap (λ (n : ℕ). getD (bytesOf 4 c ++ replicate 2398 0) n 0) e
+            ∙ getD-append-add (bytesOf 4 c) (replicate 2398 0) (m - 4) 0 ∙ zeros-at 2398 (m - 4)
+            ∙ sym (past-end (bytesOf 4 c) m (omega (arith, length-bytesOf 4 c)))
+
+-- four bytes from the register 0 are a register
+four : (c : ℕ) → c < 2 ^ 32 → fed 0 (bytesOf 4 c) ≡ shifts 32 c
+unfolding fed
+four c h =
+    ap (fed 0) (sym (append-nil (bytesOf 4 c))) ∙ run (bytesOf 4 c) [] 0
+    ∙ ap₂ (λ (n x : ℕ). shifts (8 * n) x) (length-bytesOf 4 c) (xor-zero-l (word (bytesOf 4 c)) ∙ word-number (bytes-of 4 c) ∙ number-back 4 c h)
+
+pub started : (c : ℕ) (s : List ℕ) → c < 2 ^ 32 → 4 ≤ length s → carried (begun c) s ≡ fed c s
+unfolding carried residue pull
+started c s h l =
+    let z = length s - 4 in
+    let B : ℕ → ℕ = λ j. getD (bytesOf 4 c) j 0 in
+    let S : ℕ → ℕ = λ j. getD s j 0 in
+    let e1 : length s ≡ 4 + z = omega arith in
+    let e2 : 8 * length s ≡ 32 + 8 * z = omega arith in
+    over-same (length s) 0 _ (λ j. bitXor (B j) (S j)) (λ j lj. at j)
+    ∙ over-xor (length s) 0 0 B S
+    ∙ ap (λ (x : ℕ). bitXor x (over 0 S (length s)))
+    (ap (over 0 B) e1 ∙ over-end 4 z 0 B (λ j. past-end (bytesOf 4 c) (4 + j) (omega (arith, length-bytesOf 4 c)))
+    ∙ ap (shifts (8 * z)) (ap (over 0 B) (sym (length-bytesOf 4 c)) ∙ over-fed (bytesOf 4 c) 0 ∙ four c h)
+    ∙ sym (shifts-add 32 (8 * z) c) ∙ ap (λ (n : ℕ). shifts n c) (sym e2))
+    ∙ sym (over-from (length s) c S) ∙ over-fed s c
+  where
+    late : (m j : ℕ) → 4 ≤ m → getD (take 418 (begun c)) (j + m) 0 ≡ 0
+    late m j b = begun-at c (j + m) ∙ past-end (bytesOf 4 c) (j + m) (omega (arith, length-bytesOf 4 c))
+
+    at : (j : ℕ) → bitXor (getD s j 0) (pull 2 (λ i. getD (take 418 (begun c)) i 0) j) ≡ bitXor (getD (bytesOf 4 c) j 0) (getD s j 0)
+    at j =
+        ap (bitXor (getD s j 0))
+        (ap₂ bitXor (late 288 j (omega arith))
+        (ap₂ bitXor (late 108 j (omega arith))
+        (ap₂ bitXor (late 78 j (omega arith)) (ap₂ bitXor (late 28 j (omega arith)) (begun-at c j)))))
+        ∙ xor-comm (getD s j 0) (getD (bytesOf 4 c) j 0)
+
+-- ---- a turn, and the end
+
+pub part-size : (s : List ℕ) (i e : ℕ) → i ≤ e → e ≤ length s → length (take (e - i) (drop i s)) ≡ e - i
+part-size s i e h l = length-take-le (e - i) (drop i s) (simp length-drop (omega arith))
+
+part : (s : List ℕ) (i e : ℕ) → i ≤ e → take (e - i) (drop i s) ++ drop e s ≡ drop i s
+part s i e h =
+    let z : i + (e - i) ≡ e = omega arith in
+    ap (λ (m : ℕ). take (e - i) (drop i s) ++ drop m s) (sym z)
+    ∙ ap (λ (l : List ℕ). take (e - i) (drop i s) ++ l) (sym (drop-drop (e - i) i s)) ∙ take-append-drop (e - i) (drop i s)
+
+pub stepped : (p q s : List ℕ) (i e x : ℕ) → i ≤ e → e + 418 ≤ length s
+    → ((r : List ℕ) → 418 ≤ length r → carried q r ≡ carried p (take (e - i) (drop i s) ++ r)) → carried p (drop i s) ≡ x → carried q (drop e s) ≡ x
+stepped p q s i e x h l f g = f (drop e s) (simp length-drop (omega arith)) ∙ ap (carried p) (part s i e h) ∙ g
+
+pub ended : (p q s : List ℕ) (i e r x : ℕ) → i ≤ e → e + 448 ≤ length s → e - i ≤ 1984 → Room 2402 p → Room 2402 q
+    → Filled 2 (length (take (e - i) (drop i s))) p (take (e - i) (drop i s)) q → r ≡ carried (drop (e - i) q) (take (length s - e) (drop e s)) → carried p (drop i s) ≡ x → r ≡ x
+ended p q s i e r x h l n rp rq f er g =
+    let a = take (e - i) (drop i s) in
+    let la : length a ≡ e - i = part-size s i e h (omega arith) in
+    er ∙ ap₂ (λ (m : ℕ) (b : List ℕ). carried (drop m q) b) (sym la) (take-all (length s - e) (drop e s) (simp length-drop (omega arith)))
+    ∙ chunked p a q (drop e s) rp rq (omega arith) (simp length-drop (omega arith)) f ∙ ap (carried p) (part s i e h) ∙ g

@@ -1,0 +1,37 @@
+-- A sparse multiple of the polynomial: with y for one byte, y^209 + y^144 + y^54 + y^39 + y^14 + 1 is 0 in the register, and so is the same with
+-- every exponent times 2. So a byte may be left out where it goes into five later bytes instead, and long runs are shortened without a table.
+use mathlib.Core.Path.{_≡_}
+use mathlib.Core.List.{List}
+use Prim.Native.Nat.{ℕ, zero, suc, _+_, _*_, _<_}
+use lib.Bits.{bitXor}
+use Rattle.endian.specs.Numbers.{Bytes}
+use lib.ListN.{length, take, getD}
+use Rattle.crc32c.specs.Crc.{shifts}
+
+-- the register c after n bytes, which a function gives
+unfoldable pub over : ℕ → (ℕ → ℕ) → ℕ → ℕ
+over c f zero = c
+over c f (suc n) = over (shifts 8 (bitXor c (f 0))) (λ j. f (suc j)) n
+
+-- what the 209 * k bytes of f from place j on leave for the byte behind them
+unfoldable pub pull : ℕ → (ℕ → ℕ) → ℕ → ℕ
+pull k f j =
+    bitXor (f (j + 144 * k)) (bitXor (f (j + 54 * k)) (bitXor (f (j + 39 * k)) (bitXor (f (j + 14 * k)) (f j))))
+
+-- the register after the bytes of r, into which the bytes of h before them are still to go
+unfoldable pub residue : ℕ → List ℕ → List ℕ → ℕ
+residue k h r = over 0 (λ j. bitXor (getD r j 0) (pull k (λ i. getD h i 0) j)) (length r)
+
+-- the same over the first 418 bytes of a list
+unfoldable pub carried : List ℕ → List ℕ → ℕ
+carried p r = residue 2 (take 418 p) r
+
+-- p is the history of h, and behind it n bytes of s, each with what goes into it
+pub record Filled (k n : ℕ) (h s p : List ℕ) : Type 0 where
+  pub front : (i : ℕ) → i < 209 * k → getD p i 0 ≡ getD h i 0
+  pub each : (j : ℕ) → j < n → getD p (j + 209 * k) 0 ≡ bitXor (getD s j 0) (pull k (λ i. getD p i 0) j)
+
+-- n bytes
+pub record Room (n : ℕ) (l : List ℕ) : Type 0 where
+  pub size : length l ≡ n
+  pub bytes : Bytes l
