@@ -24,6 +24,7 @@ use crate::Found;
 use cells::inner::measure;
 use cells::inner::page_at;
 use clash::inner::clash;
+use crc32c::inner::Tables;
 use endian::Lsn;
 use endian::PageNumber;
 use order::Walked;
@@ -58,7 +59,7 @@ fn refused_at(number: u64, place: usize) -> Found
 
 // Refusals 2 to 10 of a log, over n pages.
 pub fn judge_log(
-    t: &[u32; 2048],
+    t: &Tables,
     log: &[u8],
     n: usize,
     bounded: bool,
@@ -93,7 +94,7 @@ pub fn judge_log(
 }
 
 // Refusal 11 or 12 of the page at an index, or 0; `known` is the larger of the floor and the last LSN.
-fn page_number(t: &[u32; 2048], magic: u64, known: u64, index: usize, page: &[u8]) -> u64
+fn page_number(t: &Tables, magic: u64, known: u64, index: usize, page: &[u8]) -> u64
     requires { ⌜ Tables (now t) ⌝ }
     requires { ⌜ length (now page) ≡ pageBytes ⌝ }
     ensures { λ r. ⌜ r ≡ pageNumber magic known index (now (page .entry)) ⌝ }
@@ -109,7 +110,7 @@ fn page_number(t: &[u32; 2048], magic: u64, known: u64, index: usize, page: &[u8
 }
 
 // Refusals 11 and 12, page by page, of n pages.
-fn pages_from(t: &[u32; 2048], magic: u64, known: u64, pages: &[u8], n: usize) -> Verdict
+fn pages_from(t: &Tables, magic: u64, known: u64, pages: &[u8], n: usize) -> Verdict
     requires { ⌜ Tables (now t) ⌝ }
     requires { ⌜ n ≡ pagesIn (now pages) ⌝ }
     ensures { λ r. ⌜ r ≡ pagesBy magic known (now (pages .entry)) n 0 ⌝ }
@@ -134,14 +135,7 @@ fn pages_from(t: &[u32; 2048], magic: u64, known: u64, pages: &[u8], n: usize) -
 }
 
 // The same, by the floor and the last LSN.
-pub fn judge_pages(
-    t: &[u32; 2048],
-    magic: u64,
-    floor: Lsn,
-    last: Lsn,
-    pages: &[u8],
-    n: usize,
-) -> Verdict
+pub fn judge_pages(t: &Tables, magic: u64, floor: Lsn, last: Lsn, pages: &[u8], n: usize) -> Verdict
     requires { ⌜ Tables (now t) ⌝ }
     requires { ⌜ n ≡ pagesIn (now pages) ⌝ }
     ensures { λ r. ⌜ r ≡ pagesFrom magic (floor .0) (last .0) (now (pages .entry)) n 0 ⌝ }

@@ -22,8 +22,11 @@ fn byte(x: u32) -> u32
     r
 }
 
+// Eight tables, one behind the other.
+pub type Tables = [u32; 2048];
+
 // The eight tables.
-pub fn tables() -> [u32; 2048]
+pub fn tables() -> Tables
     ensures { λ r. ⌜ Tables r ⌝ }
 {
     let mut t = [0u32; 2048];
@@ -44,7 +47,7 @@ pub fn tables() -> [u32; 2048]
 }
 
 // What table j has for the low byte of x.
-fn look(t: &[u32; 2048], j: usize, x: u64) -> u32
+fn look(t: &Tables, j: usize, x: u64) -> u32
     requires { ⌜ Tables (now t) × (j < 8) ⌝ }
     ensures { λ r. ⌜ r ≡ shifts (8 * (j + 1)) (x % 256) ⌝ }
 {
@@ -52,7 +55,7 @@ fn look(t: &[u32; 2048], j: usize, x: u64) -> u32
 }
 
 // Eight bytes leave at once.
-fn eight(t: &[u32; 2048], x: u64) -> u32
+fn eight(t: &Tables, x: u64) -> u32
     requires { ⌜ Tables (now t) ⌝ }
     ensures { λ r. ⌜ r ≡ shifts 64 x ⌝ }
 {
@@ -64,7 +67,7 @@ fn eight(t: &[u32; 2048], x: u64) -> u32
                         ^ (look(t, 2, x >> 40) ^ (look(t, 1, x >> 48) ^ look(t, 0, x >> 56)))))))
 }
 
-fn one(t: &[u32; 2048], x: u32) -> u32
+fn one(t: &Tables, x: u32) -> u32
     requires { ⌜ Tables (now t) ⌝ }
     ensures { λ r. ⌜ r ≡ shifts 8 x ⌝ }
 {
@@ -72,7 +75,7 @@ fn one(t: &[u32; 2048], x: u32) -> u32
 }
 
 // The register c after the eight bytes of s at i.
-fn word(t: &[u32; 2048], c: u32, s: &[u8], i: usize) -> u32
+fn word(t: &Tables, c: u32, s: &[u8], i: usize) -> u32
     requires { ⌜ Tables (now t) × (i + 8 ≤ length (now s)) ⌝ }
     ensures { λ r. ⌜ fed r (drop (i + 8) (now (s .entry))) ≡ fed c (drop i (now (s .entry))) ⌝ }
 {
@@ -80,7 +83,7 @@ fn word(t: &[u32; 2048], c: u32, s: &[u8], i: usize) -> u32
 }
 
 // Short inputs, and what is left of long ones: eight bytes at a time, then byte by byte.
-fn words(t: &[u32; 2048], start: u32, s: &[u8]) -> u32
+fn words(t: &Tables, start: u32, s: &[u8]) -> u32
     requires { ⌜ Tables (now t) ⌝ }
     ensures { λ r. ⌜ r ≡ fed start (now (s .entry)) ⌝ }
 {
@@ -173,7 +176,7 @@ fn near(s: &[u8; 448], o: &mut [u8; 224])
     }
 }
 
-fn short(t: &[u32; 2048], s: &[u8; 224]) -> u32
+fn short(t: &Tables, s: &[u8; 224]) -> u32
     requires { ⌜ Tables (now t) ⌝ }
     ensures { λ r. ⌜ r ≡ fed 0 (now (s .entry)) ⌝ }
 {
@@ -181,7 +184,7 @@ fn short(t: &[u32; 2048], s: &[u8; 224]) -> u32
 }
 
 // The register after the last 448 bytes.
-fn tail(t: &[u32; 2048], p: &[u8; 2402], n: usize, s: &[u8]) -> u32
+fn tail(t: &Tables, p: &[u8; 2402], n: usize, s: &[u8]) -> u32
     requires { ⌜ Tables (now t) × (n ≤ 1984) × (length (now s) ≡ 448) ⌝ }
     requires { ⌜ Room 2402 (now p) ⌝ }
     ensures { λ r. ⌜ r ≡ carried (drop n (now (p .entry))) (now (s .entry)) ⌝ }
@@ -194,7 +197,7 @@ fn tail(t: &[u32; 2048], p: &[u8; 2402], n: usize, s: &[u8]) -> u32
 }
 
 // The register c after the bytes of s, of which there are at least 448. It stands in the first four bytes of the history.
-fn long(t: &[u32; 2048], c: u32, s: &[u8]) -> u32
+fn long(t: &Tables, c: u32, s: &[u8]) -> u32
     requires { ⌜ Tables (now t) × (448 ≤ length (now s)) ⌝ }
     ensures { λ r. ⌜ r ≡ fed c (now (s .entry)) ⌝ }
 {
@@ -212,7 +215,7 @@ fn long(t: &[u32; 2048], c: u32, s: &[u8]) -> u32
 }
 
 // The register start after the bytes of s.
-pub fn update(t: &[u32; 2048], start: u32, s: &[u8]) -> u32
+pub fn update(t: &Tables, start: u32, s: &[u8]) -> u32
     requires { ⌜ Tables (now t) ⌝ }
     ensures { λ r. ⌜ r ≡ fed start (now (s .entry)) ⌝ }
 {
@@ -223,7 +226,7 @@ pub fn update(t: &[u32; 2048], start: u32, s: &[u8]) -> u32
 }
 
 // The checksum of s.
-pub fn crc32c(t: &[u32; 2048], s: &[u8]) -> u32
+pub fn crc32c(t: &Tables, s: &[u8]) -> u32
     requires { ⌜ Tables (now t) ⌝ }
     ensures { λ r. ⌜ r ≡ crcOf (now (s .entry)) ⌝ }
 {

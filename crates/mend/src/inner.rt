@@ -19,6 +19,7 @@ ghost use Rattle.cells.specs.Measure.{LastAt, Lasts};
 ghost use Rattle.decide.specs.Lists.{Listed};
 ghost use Rattle.images.specs.Tuples.{Lies, tupleIn};
 ghost use Rattle.images.specs.Page.{PageCells, Sound, Touched, Fitting};
+use crc32c::inner::Tables;
 use decide::inner::decide;
 use endian::Lsn;
 use endian::inner::put_u64;
@@ -122,7 +123,7 @@ fn head_for(log: &[u8], page: &[u8], at: usize) -> PageHead
 
 // Writes page i, repacked, into a zeroed working page; the last change on it is at the place last.
 fn repack(
-    t: &[u32; 2048],
+    t: &Tables,
     work: &mut [u8],
     log: &[u8],
     page: &[u8],
@@ -148,7 +149,7 @@ fn repack(
 
 // Mends page i in its place: built in a working page first. Says how many pages it rewrote, 0 or 1.
 fn mend_page(
-    t: &[u32; 2048],
+    t: &Tables,
     log: &[u8],
     pages: &mut [u8],
     n: usize,
@@ -188,7 +189,7 @@ fn mend_page(
 
 // Mends all n pages and says how many it rewrote.
 pub fn mend_all(
-    t: &[u32; 2048],
+    t: &Tables,
     log: &[u8],
     pages: &mut [u8],
     n: usize,

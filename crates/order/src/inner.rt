@@ -15,6 +15,7 @@ ghost use Rattle.order.specs.State.{stateAfter, stateOf, mayFollow, basi
 ghost use Rattle.order.specs.Hints.{Hints, Highs, raised};
 ghost use Rattle.order.specs.First.{endNumber, fullOf, FirstWalk};
 use crate::Walked;
+use crc32c::inner::Tables;
 use endian::Lsn;
 use endian::inner::u16_at;
 use endian::inner::u64_at;
@@ -342,13 +343,7 @@ fn counted(begins: u64, kind: u8) -> u64
 }
 
 // The first walk: checksums, and all rules but that on clashes.
-pub fn walk(
-    t: &[u32; 2048],
-    log: &[u8],
-    bounded: bool,
-    records: u64,
-    hints: &mut [u32; 16384],
-) -> Walked
+pub fn walk(t: &Tables, log: &[u8], bounded: bool, records: u64, hints: &mut [u32; 16384]) -> Walked
     requires { ⌜ Tables (now t) ⌝ }
     requires { ⌜ length (now log) ≤ 16777216 ⌝ }
     requires { ⌜ Hints (now log) first (now hints) ⌝ }

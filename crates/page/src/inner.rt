@@ -27,6 +27,7 @@ use crate::writer::parts_fit;
 use crate::writer::put_back;
 use crate::writer::put_front;
 use crate::writer::put_parts;
+use crc32c::inner::Tables;
 use crc32c::inner::crc32c;
 use endian::Lsn;
 use endian::PageNumber;
@@ -94,7 +95,7 @@ pub fn slot_len(page: &[u8], k: usize) -> usize
 }
 
 // The checksum of the page's body.
-fn checksum(t: &[u32; 2048], page: &[u8]) -> u32
+fn checksum(t: &Tables, page: &[u8]) -> u32
     requires { ⌜ Tables (now t) ⌝ }
     requires { ⌜ length (now page) ≡ pageBytes ⌝ }
     ensures { λ r. ⌜ r ≡ crcOfBytes (bodyOf (now (page .entry))) ⌝ }
@@ -126,7 +127,7 @@ fn data_fault(page: &[u8]) -> Fault
 }
 
 // The first fault of the page at an index.
-pub fn fault(t: &[u32; 2048], magic: u64, index: PageNumber, page: &[u8]) -> Fault
+pub fn fault(t: &Tables, magic: u64, index: PageNumber, page: &[u8]) -> Fault
     requires { ⌜ Tables (now t) ⌝ }
     requires { ⌜ length (now page) ≡ pageBytes ⌝ }
     ensures { λ r. ⌜ r ≡ faultOf magic (index .0) (now (page .entry)) ⌝ }
@@ -151,7 +152,7 @@ pub fn fault(t: &[u32; 2048], magic: u64, index: PageNumber, page: &[u8]) -> Fau
 }
 
 // The first of count pages that is not good.
-fn first_bad(t: &[u32; 2048], magic: u64, pages: &[u8], count: usize) -> Verdict
+fn first_bad(t: &Tables, magic: u64, pages: &[u8], count: usize) -> Verdict
     requires { ⌜ Tables (now t) ⌝ }
     requires { ⌜ count ≡ pagesIn (now pages) ⌝ }
     ensures { λ r. ⌜ r ≡ firstBad magic (now (pages .entry)) count 0 ⌝ }
@@ -186,7 +187,7 @@ pub fn size_wrong(pages: &[u8]) -> bool
 }
 
 // Refusals 1 and 11, over lent tables.
-pub fn verify(t: &[u32; 2048], magic: u64, pages: &[u8]) -> Verdict
+pub fn verify(t: &Tables, magic: u64, pages: &[u8]) -> Verdict
     requires { ⌜ Tables (now t) ⌝ }
     ensures { λ r. ⌜ r ≡ verdictOf magic (now (pages .entry)) ⌝ }
 {
@@ -214,14 +215,7 @@ pub fn put_slot(work: &mut [u8], k: usize, top: usize, tuple: &[u8]) -> usize
 }
 
 // Writes the header of the working page over its body of count slots, whose tuples start at top.
-pub fn seal(
-    t: &[u32; 2048],
-    work: &mut [u8],
-    h: PageHead,
-    reserved: &[u8],
-    count: usize,
-    top: usize,
-)
+pub fn seal(t: &Tables, work: &mut [u8], h: PageHead, reserved: &[u8], count: usize, top: usize)
     requires { ⌜ Tables (now t) ⌝ }
     requires { ⌜ (length (now work) ≡ pageBytes) × (length (now reserved) ≡ 28) × (count ≤ slotLimit) × (top ≤ bodyBytes) ⌝ }
     ensures { λ _. ⌜ now (work .exit) ≡ sealed (headOf h (now (reserved .entry))) count top (bodyOf (now (work .entry))) ⌝ }
@@ -243,7 +237,7 @@ pub fn store(pages: &mut [u8], index: usize, work: &[u8])
 
 // Writes the packed page of tuples that are parts of one source, and says true; where they do not lie in it or do not fit a page, writes nothing.
 pub fn write_packed(
-    t: &[u32; 2048],
+    t: &Tables,
     pages: &mut [u8],
     index: usize,
     h: PageHead,

@@ -7,6 +7,7 @@ ghost use Rattle.rules.specs.Recover.{recoverVerdict, recoverBy, refused};
 ghost use Rattle.page.specs.Fault.{verdict};
 ghost use Rattle.recovery.specs.Judgement.{answerFrom};
 use crate::judge::judge;
+use crc32c::inner::Tables;
 use crc32c::inner::tables;
 use endian::Lsn;
 use mend::inner::mend_all;
@@ -57,7 +58,7 @@ fn done_by(last: Lsn, end: usize, c: Tally, rewritten: u64) -> Answer
 
 // Judges, and where nothing is refused mends.
 fn run(
-    t: &[u32; 2048],
+    t: &Tables,
     magic: u64,
     floor: Lsn,
     pages: &mut [u8],

@@ -7,6 +7,7 @@ use crate::Judged;
 use checks::inner::judge_log;
 use checks::inner::judge_pages;
 use checks::inner::stray;
+use crc32c::inner::Tables;
 use decide::inner::gather;
 use endian::Lsn;
 use order::Walked;
@@ -50,7 +51,7 @@ fn refused(w: Walked) -> Judged
 
 // The first refusal, or where the log ends and what it counts; `bounded` says whether only so many records are lent.
 pub fn judge(
-    t: &[u32; 2048],
+    t: &Tables,
     magic: u64,
     floor: Lsn,
     pages: &[u8],

@@ -5,9 +5,10 @@ ghost use lib.ListN.{length};
 ghost use Rattle.crc32c.specs.Tables.{Tables};
 ghost use Rattle.page.specs.Fault.{verdictOf};
 ghost use Rattle.timed.specs.Pieces.{mixed};
+use crc32c::inner::Tables;
 ghost use Rattle.wal.specs.Walk.{endOf};
 
-fn mixed_of(t: &[u32; 2048], s: &[u8], n: usize, count: usize) -> u32
+fn mixed_of(t: &Tables, s: &[u8], n: usize, count: usize) -> u32
     requires { ⌜ Tables (now t) ⌝ }
     requires { ⌜ count * n ≤ length (now s) ⌝ }
     ensures { λ r. ⌜ r ≡ mixed count n (now (s .entry)) ⌝ }

@@ -14,6 +14,7 @@ use crate::FIRST;
 use crate::LONGEST;
 use crate::Reading;
 use crate::SHORTEST;
+use crc32c::inner::Tables;
 use endian::Lsn;
 use endian::TxnNumber;
 use endian::inner::u16_at;
@@ -21,7 +22,7 @@ use endian::inner::u32_at;
 use endian::inner::u64_at;
 
 // The checksum of the n bytes at place.
-fn sum_of(t: &[u32; 2048], log: &[u8], place: usize, n: usize) -> u32
+fn sum_of(t: &Tables, log: &[u8], place: usize, n: usize) -> u32
     requires { ⌜ Tables (now t) ⌝ }
     requires { ⌜ place + n ≤ length (now log) ⌝ }
     ensures { λ r. ⌜ r ≡ crcOf (part place n (now (log .entry))) ⌝ }
@@ -57,7 +58,7 @@ fn fields_at(
 }
 
 // The n bytes at place as an entry.
-fn whole_at(t: &[u32; 2048], log: &[u8], place: usize, n: usize) -> Reading
+fn whole_at(t: &Tables, log: &[u8], place: usize, n: usize) -> Reading
     requires { ⌜ Tables (now t) ⌝ }
     requires { ⌜ (43 ≤ n) × (n ≤ 32705) × (place + n ≤ length (now log)) ⌝ }
     ensures { λ r. ⌜ r ≡ wholeAt (now (log .entry)) place n ⌝ }
@@ -96,7 +97,7 @@ fn inner_lengths(log: &[u8], place: usize, n: usize) -> Reading
 }
 
 // What stands at place.
-pub fn entry_at(t: &[u32; 2048], log: &[u8], place: usize) -> Reading
+pub fn entry_at(t: &Tables, log: &[u8], place: usize) -> Reading
     requires { ⌜ Tables (now t) ⌝ }
     ensures { λ r. ⌜ r ≡ readAt (now (log .entry)) place ⌝ }
 {
@@ -124,7 +125,7 @@ pub fn entry_at(t: &[u32; 2048], log: &[u8], place: usize) -> Reading
 }
 
 // The entry that ends at place, if a whole one does.
-pub fn entry_before(t: &[u32; 2048], log: &[u8], place: usize) -> Before
+pub fn entry_before(t: &Tables, log: &[u8], place: usize) -> Before
     requires { ⌜ Tables (now t) ⌝ }
     ensures { λ r. ⌜ r ≡ readBefore (now (log .entry)) place ⌝ }
 {
@@ -151,7 +152,7 @@ pub fn entry_before(t: &[u32; 2048], log: &[u8], place: usize) -> Before
 }
 
 // The place where the walk from the first entry ends.
-pub fn end_of(t: &[u32; 2048], log: &[u8]) -> usize
+pub fn end_of(t: &Tables, log: &[u8]) -> usize
     requires { ⌜ Tables (now t) ⌝ }
     ensures { λ r. ⌜ r ≡ endOf (now (log .entry)) ⌝ }
 {
