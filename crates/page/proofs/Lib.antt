@@ -7,6 +7,7 @@ pub mod Pasting
 pub mod Packing
 pub mod Parts
 pub mod Listing
+pub mod RowLists
 pub mod Visibility
 pub mod Mapping
 pub mod Picks

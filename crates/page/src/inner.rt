@@ -1,4 +1,4 @@
-// What other crates call with a `requires`: a page's fields, its first fault, and the packed page writer.
+// What other crates call with a `requires`: a page's fields, its first fault, the next visible row, and the packed page writer.
 ghost use mathlib.Core.Path.{_≡_};
 ghost use Prim.Native.Nat.{ℕ, _+_, _*_, _-_, _≤_, _<_};
 ghost use lib.ListN.{length};
@@ -8,6 +8,7 @@ ghost use Rattle.crc32c.specs.Tables.{Tables};
 ghost use Rattle.page.specs.Layout.{pageBytes, bodyBytes, slotLimit, pagesIn, magicOf, typeOf, countOf, idOf, lsnOf, bodyOf, slotOff, slotLen};
 ghost use Rattle.page.specs.Fault.{dataFault, faultOf, faultVerdict, lateOf, pageVerdict, firstBad, sizeWrong, verdictOf};
 ghost use Rattle.endian.specs.Pick.{pick};
+ghost use Rattle.page.specs.Rows.{Listable, visibleRows, firstAt};
 ghost use Rattle.page.specs.Packed.{packed};
 ghost use Rattle.page.specs.Writer.{withSlot, headOf, sealed, givenAll, partsFit};
 use crate::BODY_BYTES;
@@ -15,11 +16,13 @@ use crate::DATA_TYPE;
 use crate::Fault;
 use crate::HEAD_BYTES;
 use crate::LAST_TYPE;
+use crate::NextRow;
 use crate::PAGE_BYTES;
 use crate::PAGE_LIMIT;
 use crate::PageHead;
 use crate::SLOT_LIMIT;
 use crate::faults::slots_fault;
+use crate::rows::row_on;
 use crate::writer::copy_in;
 use crate::writer::off_of;
 use crate::writer::parts_fit;
@@ -258,6 +261,27 @@ pub fn verify(t: &Tables, magic: u64, pages: &[u8]) -> Verdict
         };
     }
     first_bad(t, magic, false, 0, pages, pages.len() / PAGE_BYTES)
+}
+
+// The first visible row at or after a slot of the page at an index, on pages that were verified. A search goes on behind the row that it gives.
+pub fn next_row(pages: &[u8], index: usize, slot: usize) -> NextRow
+    requires { ⌜ Listable (now pages) ⌝ }
+    ensures { λ r. ⌜ r ≡ firstAt index slot (visibleRows (now (pages .entry))) ⌝ }
+{
+    let n = pages.len() / PAGE_BYTES;
+    let mut i = index;
+    let mut k = slot;
+    while i < n {
+        let a = i * PAGE_BYTES;
+        let e = a + PAGE_BYTES;
+        let r = row_on(&pages[a..e], i as u64, k);
+        let NextRow::NoMore = r else {
+            return r;
+        };
+        i += 1;
+        k = 0;
+    }
+    NextRow::NoMore
 }
 
 // Puts tuple into the working page as slot k: its four bytes, and the tuple so that it ends at top of the body. Gives back where it starts.

@@ -1,7 +1,9 @@
 // The page format: the first fault of a page, slots, visible rows, the map of free pages, and the packed page.
 ghost use mathlib.Core.Path.{_≡_};
 ghost use Rattle.page.specs.Fault.{verdictOf};
-ghost use Rattle.page.specs.Rows.{nextRow};
+ghost use Prim.Native.Nat.{_/_};
+ghost use lib.ListN.{length};
+ghost use Rattle.page.specs.Rows.{nextRow, rowList, rowsAfter};
 ghost use Rattle.page.specs.FreeMap.{mapVerdict, freeCount, mapAfter};
 use endian::Lsn;
 use endian::PageNumber;
@@ -11,6 +13,7 @@ use refusals::Verdict;
 mod faults;
 mod granules;
 pub mod inner;
+mod list;
 mod map;
 mod rows;
 mod writer;
@@ -74,6 +77,14 @@ pub enum NextRow {
     NoMore,
 }
 
+// What listing many rows answers: a refusal, or how many rows were given and where to go on.
+pub struct RowList {
+    pub verdict: Verdict,
+    pub count: usize,
+    pub page: PageNumber,
+    pub slot: usize,
+}
+
 // What making a free map answers: a refusal, or the count of free pages.
 pub struct FreeMap {
     pub verdict: Verdict,
@@ -96,7 +107,31 @@ pub fn next_visible(magic: u64, pages: &[u8], page: PageNumber, slot: usize) -> 
     if v.number != 0 {
         return NextRow::Refused(v);
     }
-    rows::row_from(pages, page.0 as usize, slot)
+    inner::next_row(pages, page.0 as usize, slot)
+}
+
+// Fills the lent numbers with the visible rows at or after a slot of a page, three numbers a row: page, slot, length; verifies the pages once. Gives back how many
+// rows there are, and the place of the first that found no room, or the count of pages and 0 where all are given. Refuses 1 and 11, which leave the numbers as they are.
+pub fn list_visible(
+    magic: u64,
+    pages: &[u8],
+    page: PageNumber,
+    slot: usize,
+    out: &mut [u64],
+) -> RowList
+    ensures { λ r. ⌜ r ≡ rowList magic (now (pages .entry)) (page .0) slot (length (now (out .entry)) / 3) ⌝ }
+    ensures { λ _. ⌜ now (out .exit) ≡ rowsAfter magic (now (pages .entry)) (page .0) slot (now (out .entry)) ⌝ }
+{
+    let v = verify(magic, pages);
+    if v.number != 0 {
+        return RowList {
+            verdict: v,
+            count: 0,
+            page: PageNumber(0),
+            slot: 0,
+        };
+    }
+    list::fill(pages, page.0 as usize, slot, out)
 }
 
 // Writes the map of free pages: bit i, lowest bit first, is 1 exactly if page i is free; needed bytes whole, spare bits 0. Refuses 1, 11 and 16, which

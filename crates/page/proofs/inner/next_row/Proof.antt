@@ -8,8 +8,8 @@ use Rattle.page.specs.Rows.{pageRows, rowsFrom, visibleRows, firstAt}
 use Rattle.page.specs.Layout.{pageAt}
 use Rattle.page.proofs.Listing.{not-none, pages-from, pages-done, page-passed, page-found}
 use Rattle.page.proofs.Verdicts.{page-length, page-part}
-use Rattle.page.proofs.rows.row_from.Statement.{statement}
-use Rattle.page.proofs.rows.row_from.Tie as tie
+use Rattle.page.proofs.inner.next_row.Statement.{statement}
+use Rattle.page.proofs.inner.next_row.Tie as tie
 
 abbrev Inv-loop : tie.InvT-loop
 Inv-loop pages index slot n i₀ k₀ i k = firstAt i k (rowsFrom pages (n - i) i) ≡ firstAt index slot (visibleRows pages)
@@ -25,7 +25,7 @@ row-on-requires c κs =
     let l = c .before .before in
     let s = l .before .before in
     let p = page-part (s .args .pages .now) (l .loop .i) in
-    (ap length p ∙ page-length (s .args .pages .now) (l .loop .i) (omega arith), rw p (s .pre (l .loop .i) (omega arith)))
+    (ap length p ∙ page-length (s .args .pages .now) (l .loop .i) (omega arith), rw p (s .pre .at (l .loop .i) (omega arith)))
 
 -- what page i has
 found : (c : tie.After-row-on Inv-loop μ-loop) → let l = c .before .before .before in let s = l .before .before in
@@ -49,7 +49,7 @@ loop-again c =
 returns-2 : tie.Need-returns-2 Inv-loop μ-loop
 returns-2 c = sym (pages-done (c .before .loop .i) (c .before .loop .k) _ _ (omega arith)) ∙ c .before .loop .inv
 
-pub row-from-spec : {M : Type 1} → statement M
-row-from-spec =
+pub next-row-spec : {M : Type 1} → statement M
+next-row-spec =
     tie.close
     (tie.spec Inv-loop μ-loop loop-holds (λ c. search needs) (λ c. search needs) (λ c. search needs) (λ c. search needs) (λ c. search needs) row-on-requires (λ c. search needs) returns (λ c. search needs) (λ c. search needs) loop-again returns-2)
