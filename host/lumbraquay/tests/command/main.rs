@@ -12,4 +12,5 @@ mod recover;
 mod refusals;
 mod replay;
 mod sandbox;
+mod tools;
 mod usage;
