@@ -5,11 +5,14 @@ mod args;
 mod commands;
 mod failure;
 mod files;
+mod fresh;
+mod held;
 mod input;
 mod json;
 mod output;
 mod portal;
 mod show;
+mod sys;
 
 use std::ffi::OsString;
 use std::process::ExitCode;
@@ -33,6 +36,9 @@ fn main() -> ExitCode {
         Ok(()) => ExitCode::SUCCESS,
         Err(failure) => {
             failure.tell();
+            if let Failure::Stopped(number) = failure {
+                sys::end_by(number);
+            }
             ExitCode::from(failure.status())
         }
     }

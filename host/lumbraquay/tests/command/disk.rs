@@ -55,7 +55,7 @@ fn a_full_disk() {
     assert!(sandbox.contents() == before);
 }
 
-/// A run that is killed while it writes leaves a file under a name of its own, and the next run is not hindered.
+/// A run that is killed while it writes leaves a file under a name of its own, which the next run removes.
 #[test]
 fn a_run_that_is_killed() {
     for words in WRITING {
@@ -64,24 +64,30 @@ fn a_run_that_is_killed() {
         for turn in 1..=2 {
             let killed = sandbox.shell(&format!("{LIMITED} exec \"$LQ\" {words}"));
             assert_eq!(killed.status, None, "{killed:#?}");
+            assert_eq!(killed.err.contains("lumbraquay: removed "), turn == 2);
             let names = sandbox.names();
             let (own, seen): (Vec<String>, Vec<String>) =
                 names.into_iter().partition(|name| name.starts_with('.'));
             assert_eq!(seen, OLD, "{words}");
-            assert_eq!(own.len(), turn);
+            assert_eq!(own.len(), 1);
             assert!(own.iter().all(|name| name.ends_with(".tmp")));
         }
         assert!(OLD.map(|name| sandbox.read(name)) == old);
-        sandbox.say(words).done();
+        let done = sandbox.say(words).ends(0);
+        assert!(done
+            .err
+            .contains("which a run that was killed left behind\n"));
+        assert!(sandbox.names().iter().all(|name| !name.starts_with('.')));
     }
 }
 
-/// Its process number may come again, as in a container that is started anew.
+/// Its process number may come again, as in a container that is started anew; and its files may be locked still.
 #[test]
-fn names_that_a_killed_run_left_are_passed_by() {
+fn names_that_are_taken_are_passed_by() {
     let sandbox = Sandbox::with_outage();
     let line = "for n in 0 1; do echo old > .outage.pages.recovered.$$-$n.tmp; done; \
-                exec \"$LQ\" recover outage.pages outage.log";
+                exec 8< .outage.pages.recovered.$$-0.tmp 9< .outage.pages.recovered.$$-1.tmp; \
+                flock 8; flock 9; exec \"$LQ\" recover outage.pages outage.log";
     sandbox.shell(line).done();
     let names = sandbox.names();
     assert_eq!(names.len(), 5, "{names:?}");
