@@ -4,6 +4,8 @@ use std::fmt::Display;
 use std::io::{ErrorKind, Write};
 use std::path::Path;
 
+use crate::done;
+
 pub enum Failure {
     /// The words on the command line are wrong.
     Usage(String),
@@ -15,7 +17,7 @@ pub enum Failure {
     Refused(String),
     /// The two programs differ on a replayed case.
     Differs(String),
-    /// A signal asked for an end, and nothing was changed.
+    /// A signal asked for an end.
     Stopped(i32),
     /// What was asked for is done, but something after it went wrong.
     Done(String),
@@ -41,12 +43,22 @@ impl Failure {
         match self {
             Failure::Output(error) if error.kind() == ErrorKind::BrokenPipe => String::new(),
             Failure::Output(error) => format!("cannot write to standard output: {error}"),
-            Failure::Stopped(number) => format!("stopped by signal {number}; no file was changed"),
+            Failure::Stopped(number) => format!("stopped by signal {number}; {}", done::so_far()),
             Failure::Usage(text)
             | Failure::File(text)
             | Failure::Refused(text)
             | Failure::Differs(text)
             | Failure::Done(text) => text.clone(),
+        }
+    }
+
+    /// The failure of a run that has changed a file: where its report could not be written, that says so.
+    pub fn after_changes(self) -> Failure {
+        match (self, done::marked()) {
+            (Failure::Output(error), Some(done)) => {
+                Failure::Done(format!("cannot write to standard output: {error}; {done}"))
+            }
+            (failure, _) => failure,
         }
     }
 

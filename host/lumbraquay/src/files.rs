@@ -6,12 +6,14 @@ use std::io::{ErrorKind, Read};
 use std::os::unix::fs::MetadataExt;
 use std::path::{Path, PathBuf};
 
+use crate::done::Mark;
 use crate::failure::Failure;
 use crate::fresh::{give_rights, sweep, unless_stopped, Fresh};
+use crate::memory;
 use crate::sys::Signals;
 
 /// How many bytes are written or compared at a time.
-pub const PIECE_BYTES: usize = 1 << 20;
+pub const PIECE_BYTES: usize = 1 << 16;
 
 /// What a file holds.
 pub struct Whole {
@@ -76,9 +78,9 @@ impl Seen {
 
     /// Reads the file. Of one that is over the limit no more are read than one byte past it, which the library refuses.
     pub fn read(self, limit: usize) -> Result<Whole, Failure> {
-        let mut bytes = Vec::new();
-        let mut some = (&self.file).take(limit as u64 + 1);
-        match some.read_to_end(&mut bytes) {
+        let most = limit as u64 + 1;
+        let mut bytes = memory::room(self.stamp.size.min(most) as usize + 1)?;
+        match memory::asking(|| (&self.file).take(most).read_to_end(&mut bytes)) {
             Ok(read) => Ok(Whole {
                 bytes,
                 length: self.stamp.size.max(read as u64),
@@ -148,10 +150,12 @@ pub fn write_new(
     unless_stopped()?;
     // It may have come into being, or become something else, meanwhile.
     check_new(path, replace)?;
+    let mark = Mark::new(format!("{} is written", path.display()));
     match replace {
         true => drop(fresh.take_the_place_of(path)?),
         false => drop(fresh.take_the_name(path)?.stay()),
     }
+    mark.set();
     sync_directory(path).map_err(|failure| lasting(&failure, path, None))
 }
 

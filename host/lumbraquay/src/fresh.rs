@@ -7,6 +7,7 @@ use std::os::unix::ffi::OsStrExt;
 use std::os::unix::fs::{fchown, MetadataExt, OpenOptionsExt, PermissionsExt};
 use std::path::{Path, PathBuf};
 
+use crate::done;
 use crate::failure::{note, Failure};
 use crate::files::{directory_of, is_one_file, sync_directory, with_ending, PIECE_BYTES};
 use crate::sys::{self, Signals};
@@ -19,7 +20,7 @@ const ACCESS_LIST: &[u8] = b"system.posix_acl_access";
 
 /// A file that goes away again unless it takes its place.
 pub struct Fresh {
-    path: PathBuf,
+    pub path: PathBuf,
     /// Locked as long as the run goes on; none for a second name.
     file: Option<File>,
 }
@@ -137,6 +138,7 @@ impl Fresh {
         let second = self.stay();
         match fs::rename(&second, path).map(|()| sync_directory(path)) {
             Ok(_) => {
+                done::clear();
                 let why = "another process opened it for writing at the last moment; all is as it was";
                 Failure::file("replace", path, why)
             }

@@ -4,6 +4,7 @@ use std::fs;
 use std::os::unix::fs::{FileExt, MetadataExt};
 use std::path::{Path, PathBuf};
 
+use crate::done::Mark;
 use crate::failure::{note, Failure};
 use crate::files::{is_one_file, lasting, sync_directory, Seen, Stamp, Whole, PIECE_BYTES};
 use crate::fresh::{backup_name, keep_all, sweep, unless_stopped, Fresh, Unnamed, MOST_NAMES};
@@ -89,7 +90,7 @@ impl Held {
 
     /// Whether the file still holds these bytes; times of writing may be too coarse to tell.
     fn holds(&self, bytes: &[u8]) -> bool {
-        let mut piece = vec![0; PIECE_BYTES.min(bytes.len())];
+        let mut piece = [0; PIECE_BYTES];
         let mut pieces = bytes.chunks(PIECE_BYTES).enumerate();
         pieces.all(|(number, expected)| {
             let found = &mut piece[..expected.len()];
@@ -115,7 +116,14 @@ impl Held {
         unless_stopped()?;
         // The old file keeps a name until it is sure that nobody writes to it.
         let second = Fresh::second_name(path);
+        let mark = Mark::new(format!(
+            "{} is replaced by the recovered pages; {} has the {} bytes that were read from it",
+            path.display(),
+            backup.path.display(),
+            old.len()
+        ));
         let fresh = fresh.take_the_place_of(path)?;
+        mark.set();
         let synced = sync_directory(path);
         let now = self.seen.file.metadata();
         let is_unwritten = now.is_ok_and(|now| Stamp::of(&now).is_unwritten(&self.seen.stamp));

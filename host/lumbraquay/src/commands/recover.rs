@@ -11,6 +11,7 @@ use crate::files;
 use crate::held::Held;
 use crate::input::{verdict_fields, Log, Pages, Read};
 use crate::json::Json;
+use crate::memory;
 use crate::output::Output;
 use crate::show;
 
@@ -80,14 +81,16 @@ pub fn recover(parsed: &Parsed, output: &mut Output) -> Result<Report, Failure> 
     let log = Log::read(parsed.path(1))?;
     let target = target(parsed, held)?;
 
-    let mut new = old.bytes.clone();
-    let mut table = vec![0; RECORD_NUMBERS * records(&log, most_records)];
+    let mut new = memory::room(old.bytes.len())?;
+    new.extend_from_slice(&old.bytes);
+    let numbers = RECORD_NUMBERS * records(&log, most_records);
+    let mut table = memory::room(numbers)?;
+    table.resize(numbers, 0);
     let answer = library::recover(old.magic, floor, &mut new, &log.bytes, &mut table);
     unless_refused(parsed, output, answer.verdict(), Read::both(&old, &log))?;
     let transactions = answer.committed + answer.rolled_back + answer.unended;
-    let records: Vec<Record> = library::records(&table)
-        .take(transactions as usize)
-        .collect();
+    let mut records = memory::room(transactions as usize)?;
+    records.extend(library::records(&table).take(transactions as usize));
 
     let written = write(parsed, target, &old, &log, &new)?;
     Ok(Report {

@@ -119,3 +119,108 @@ fn standard_output_that_is_full_or_closed() {
     let status = sandbox.read("status");
     assert!(status == b"2\n" || status == b"0\n", "{status:?}");
 }
+
+/// The uses that leave files, and what of them stands on standard error if the report finds no room.
+const LEAVING: [(&str, &[&str]); 5] = [
+    (
+        "recover outage.pages outage.log --out new",
+        &["new is written"],
+    ),
+    (
+        "recover outage.pages outage.log --out new --json",
+        &["new is written"],
+    ),
+    (
+        "recover outage.pages outage.log --in-place",
+        &[
+            "outage.pages is replaced by the recovered pages; ",
+            "outage.pages.bak has the 65536 bytes that were read from it",
+        ],
+    ),
+    ("demo --dir new", &["new/outage.pages.recovered is written"]),
+    ("replay 7 --dir .", &["./7.log is written"]),
+];
+
+#[test]
+fn done_but_the_report_finds_no_room() {
+    let endings = [
+        ("> /dev/full", "No space left on device"),
+        ("| true", "Broken pipe"),
+    ];
+    for (words, texts) in LEAVING {
+        for (ending, error) in endings {
+            let sandbox = Sandbox::with_outage();
+            let line = format!("{{ sleep 0.05; \"$LQ\" {words}; echo $? > status; }} {ending}");
+            let done = sandbox.shell(&line);
+            assert_eq!(sandbox.read("status"), b"4\n", "{words} {done:#?}");
+            let head = format!("lumbraquay: cannot write to standard output: {error}");
+            assert!(done.err.starts_with(&head), "{done:#?}");
+            for text in texts {
+                assert!(done.err.contains(text), "no '{text}' in {done:#?}");
+            }
+        }
+    }
+    // Nothing was done, so that is all that is to be told.
+    let sandbox = Sandbox::with_outage();
+    for words in ["--dry-run", "--in-place"] {
+        let line = format!("\"$LQ\" recover outage.pages outage.log {words} > /dev/full");
+        sandbox
+            .say("recover outage.pages outage.log --in-place")
+            .done();
+        sandbox
+            .shell(&line)
+            .fails(&["cannot write to standard output: No space left on device"]);
+    }
+}
+
+/// A small stack for the process, and little memory: done, or a clear error.
+#[test]
+fn little_stack_and_little_memory() {
+    let sandbox = Sandbox::with_outage();
+    for kib in [100, 300, 1_000] {
+        let line =
+            format!("ulimit -s {kib}; \"$LQ\" recover outage.pages outage.log --out new --force");
+        sandbox.shell(&line).done();
+    }
+    // The largest page file, of free pages beside the outage's.
+    let mut pages = sandbox.read("outage.pages");
+    for id in 4..4_096 {
+        pages.extend(generate::plain_page(
+            u64::from_le_bytes(*b"CRANES01"),
+            generate::FREE,
+            id,
+            12,
+        ));
+    }
+    sandbox.write("outage.pages", &pages);
+    let before = sandbox.contents();
+    let (mut done, mut failed) = (0, 0);
+    for mib in (6..=210).step_by(12) {
+        for words in ["--dry-run", "--dry-run --json", "--in-place"] {
+            let limit = format!("ulimit -v {}", mib * 1_024);
+            if sandbox.shell(&format!("{limit}; \"$LQ\" --version")).status != Some(0) {
+                continue;
+            }
+            let line = format!("{limit}; \"$LQ\" recover outage.pages outage.log {words}");
+            let ended = sandbox.shell(&line);
+            match ended.status {
+                Some(0) => done += 1,
+                Some(2) => {
+                    failed += 1;
+                    assert!(
+                        ended.err.contains("out of memory")
+                            || ended.err.contains("no room for a stack"),
+                        "{mib} {ended:#?}"
+                    );
+                    assert!(sandbox.contents() == before);
+                }
+                _ => panic!("{mib} {ended:#?}"),
+            }
+            if done > 0 && words == "--in-place" {
+                assert!(failed > 3);
+                return;
+            }
+        }
+    }
+    panic!("never enough memory");
+}
