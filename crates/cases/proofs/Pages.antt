@@ -17,12 +17,13 @@ use Rattle.wal.proofs.Encoding.{entries-log, end-log, header-log, length-log}
 use Rattle.wal.proofs.ReadLaws.{past-end}
 use Rattle.page.specs.Layout.{pageBytes, bodyBytes, pageLimit, pagesIn, pageAt, typeOf, lsnOf, slotAt}
 use Rattle.page.specs.Packed.{packed, tab, roomFor}
-use Rattle.page.specs.Fault.{verdict, accepted, faultOf, sizeWrong}
-use Rattle.page.specs.declared.Verdict.{Verdict}
+use Rattle.refusals.specs.Verdict.{verdict, accepted, _then_}
+use Rattle.page.specs.Fault.{faultOf, sizeWrong}
+use Rattle.refusals.specs.declared.Verdict.{Verdict}
 use Rattle.page.specs.declared.Fault.the-variants.{Sound}
 use Rattle.page.proofs.FaultLaws.{good-sound}
 use Rattle.rules.specs.Shape.{pageOf as pageNumber}
-use Rattle.rules.specs.Order.{lastLsn, fullAt, orderFrom, endVerdict, logVerdict, _then_}
+use Rattle.rules.specs.Order.{lastLsn, fullAt, orderFrom, endVerdict, logVerdict}
 use Rattle.rules.specs.Mend.{committed, topOf, decided, slotsFor, headFor, repacked, unless, mendBy, mend}
 use Rattle.rules.specs.Recover.{pagesFrom, strayFrom, isTight, tightFrom, recoverVerdict, done, Recovered, recoverOf}
 use Rattle.rules.specs.declared.Answer.{Answer}

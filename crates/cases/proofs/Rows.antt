@@ -18,11 +18,12 @@ use Rattle.wal.specs.declared.Reading.the-variants.{Whole, End, Torn, Damage}
 use Rattle.wal.proofs.WalkLaws.{none, not-end, not-torn, not-damage}
 use Rattle.page.specs.Layout.{bodyOf, slotOff, freeStartOf, freeEndOf, xmaxOf, deletedOf}
 use Rattle.page.specs.Packed.{body}
-use Rattle.page.specs.Fault.{accepted, sizeWrong}
-use Rattle.page.specs.declared.Verdict.{Verdict}
+use Rattle.refusals.specs.Verdict.{accepted, _then_}
+use Rattle.page.specs.Fault.{sizeWrong}
+use Rattle.refusals.specs.declared.Verdict.{Verdict}
 use Rattle.page.proofs.Fields.{body-back, freeStart-back, freeEnd-back}
 use Rattle.rules.specs.Shape.{isKnown, isChange, isChanging, isImage, same, isKeyed, isBare, isShaped, beforeOf, afterOf, stamped, isOn, effectOn, topOn, sameSlot}
-use Rattle.rules.specs.Order.{begun, ended, isOpen, inOrder, clashes, faultAfter, fullAt, orderFrom, endVerdict, logVerdict, _then_}
+use Rattle.rules.specs.Order.{begun, ended, isOpen, inOrder, clashes, faultAfter, fullAt, orderFrom, endVerdict, logVerdict}
 use Rattle.rules.specs.Mend.{committed, changes, topOf, decided}
 use Rattle.rules.specs.Recover.{pagesFrom, strayFrom, tightFrom, recoverVerdict, done}
 use Rattle.rules.specs.declared.Answer.{Answer}

@@ -10,7 +10,8 @@ use denote.Enum.Declared.{tagOf}
 use types.Run.{OneOf, miss}
 use Rattle.endian.specs.Pick.{pick}
 use Rattle.page.specs.Layout.{pageAt, lsnOf}
-use Rattle.page.specs.Fault.{verdict, accepted, judged, faultOf}
+use Rattle.refusals.specs.Verdict.{verdict, accepted}
+use Rattle.page.specs.Fault.{judged, faultOf}
 use Rattle.page.specs.declared.Fault.{Fault}
 use Rattle.page.specs.declared.Fault.the-variants.{Sound, MagicOrType, Id, Checksum, Count, FreeStart, FreeEnd, Slot}
 use Rattle.page.proofs.Fault.{the-type}

@@ -9,10 +9,11 @@ use Rattle.refusals.specs.Refusal.{pageNotGood, pageLsn}
 use Rattle.endian.specs.Pick.{pick}
 use Rattle.wal.specs.Walk.{entries, endOf}
 use Rattle.page.specs.Layout.{pageBytes, dataType, pageAt, lsnOf}
-use Rattle.page.specs.Fault.{accepted, faultOf}
+use Rattle.refusals.specs.Verdict.{accepted}
+use Rattle.page.specs.Fault.{faultOf}
 use Rattle.page.specs.declared.Fault.{Fault}
 use Rattle.page.specs.declared.Fault.the-variants.{Sound, MagicOrType, Id, Checksum, Count, FreeStart, FreeEnd, Slot}
-use Rattle.page.specs.declared.Verdict.{Verdict}
+use Rattle.refusals.specs.declared.Verdict.{Verdict}
 use Rattle.rules.specs.Order.{lastLsn, orElse, logVerdict}
 use Rattle.order.specs.First.{told}
 use Rattle.order.specs.declared.Walked.{Walked}

@@ -2,12 +2,13 @@
 ghost use mathlib.Core.Path.{_≡_};
 ghost use Prim.Native.Nat.{ℕ, _+_, _*_, _%_, _^_, _<_, _≤_};
 ghost use mathlib.Core.List.{List, _++_};
+ghost use lib.Bits.{bitXor};
 ghost use lib.ListN.{length, take, drop};
 ghost use Rattle.crc32c.specs.Crc.{shifts, fed, crc32c as crcOf};
 ghost use Rattle.crc32c.specs.Tables.{Tables};
 ghost use Rattle.crc32c.specs.Sparse.{Filled, Room, carried};
 use endian::inner::put_u32;
-use endian::inner::u64_at;
+use endian::inner::u32_at;
 
 // What the byte x leaves after one byte.
 fn byte(x: u32) -> u32
@@ -22,14 +23,14 @@ fn byte(x: u32) -> u32
     r
 }
 
-// Eight tables, one behind the other.
-pub type Tables = [u32; 2048];
+// Sixteen tables, one behind the other.
+pub type Tables = [u32; 4096];
 
-// The eight tables.
+// The sixteen tables.
 pub fn tables() -> Tables
     ensures { λ r. ⌜ Tables r ⌝ }
 {
-    let mut t = [0u32; 2048];
+    let mut t = [0u32; 4096];
     let mut n: u32 = 0;
     let mut k: usize = 0;
     'first: while k < 256 {
@@ -37,7 +38,7 @@ pub fn tables() -> Tables
         n += 1;
         k += 1;
     }
-    'rest: while k < 2048 {
+    'rest: while k < 4096 {
         let x = t[k - 256];
         let j = (x & 255) as usize;
         t[k] = (x >> 8) ^ t[j];
@@ -46,58 +47,103 @@ pub fn tables() -> Tables
     t
 }
 
-// What table j has for the low byte of x.
-fn look(t: &Tables, j: usize, x: u64) -> u32
-    requires { ⌜ Tables (now t) × (j < 8) ⌝ }
-    ensures { λ r. ⌜ r ≡ shifts (8 * (j + 1)) (x % 256) ⌝ }
+fn low(x: u32) -> u8
+    ensures { λ r. ⌜ r ≡ x % 256 ⌝ }
 {
-    t[j * 256 + (x & 255) as usize]
+    (x & 255) as u8
 }
 
-// Eight bytes leave at once.
-fn eight(t: &Tables, x: u64) -> u32
-    requires { ⌜ Tables (now t) ⌝ }
-    ensures { λ r. ⌜ r ≡ shifts 64 x ⌝ }
+// What the byte b leaves in the register after itself and k more bytes.
+fn look(t: &Tables, k: usize, b: u8) -> u32
+    requires { ⌜ Tables (now t) × (k < 16) ⌝ }
+    ensures { λ r. ⌜ r ≡ shifts (8 * (k + 1)) b ⌝ }
 {
-    look(t, 7, x)
-        ^ (look(t, 6, x >> 8)
-            ^ (look(t, 5, x >> 16)
-                ^ (look(t, 4, x >> 24)
-                    ^ (look(t, 3, x >> 32)
-                        ^ (look(t, 2, x >> 40) ^ (look(t, 1, x >> 48) ^ look(t, 0, x >> 56)))))))
+    t[k * 256 + b as usize]
 }
 
-fn one(t: &Tables, x: u32) -> u32
-    requires { ⌜ Tables (now t) ⌝ }
-    ensures { λ r. ⌜ r ≡ shifts 8 x ⌝ }
+// What the four bytes of x leave after themselves and k more bytes.
+fn four(t: &Tables, k: usize, x: u32) -> u32
+    requires { ⌜ Tables (now t) × (k ≤ 12) ⌝ }
+    ensures { λ r. ⌜ r ≡ shifts (8 * (k + 4)) x ⌝ }
 {
-    (x >> 8) ^ look(t, 0, x as u64)
+    look(t, k, low(x >> 24))
+        ^ look(t, k + 1, low(x >> 16))
+        ^ look(t, k + 2, low(x >> 8))
+        ^ look(t, k + 3, low(x))
 }
 
-// The register c after the eight bytes of s at i.
-fn word(t: &Tables, c: u32, s: &[u8], i: usize) -> u32
+// The register c after the four bytes of s at i, and after k more bytes, which are not yet in it.
+fn lead(t: &Tables, k: usize, c: u32, s: &[u8], i: usize) -> u32
+    requires { ⌜ Tables (now t) × (k ≤ 12) × (i + 4 ≤ length (now s)) ⌝ }
+    ensures { λ r. ⌜ r ≡ shifts (8 * k) (fed c (take 4 (drop i (now (s .entry))))) ⌝ }
+{
+    four(t, k, c ^ u32_at(s, i))
+}
+
+// What the four bytes of s at i leave after themselves and k more bytes.
+fn follow(t: &Tables, k: usize, s: &[u8], i: usize) -> u32
+    requires { ⌜ Tables (now t) × (k ≤ 12) × (i + 4 ≤ length (now s)) ⌝ }
+    ensures { λ r. ⌜ r ≡ shifts (8 * k) (fed 0 (take 4 (drop i (now (s .entry))))) ⌝ }
+{
+    look(t, k, s[i + 3])
+        ^ look(t, k + 1, s[i + 2])
+        ^ look(t, k + 2, s[i + 1])
+        ^ look(t, k + 3, s[i])
+}
+
+// The register c after the sixteen bytes of s at i. Only the first four wait for c, and go in last.
+fn sixteen(t: &Tables, c: u32, s: &[u8], i: usize) -> u32
+    requires { ⌜ Tables (now t) × (i + 16 ≤ length (now s)) ⌝ }
+    ensures { λ r. ⌜ fed r (drop (i + 16) (now (s .entry))) ≡ fed c (drop i (now (s .entry))) ⌝ }
+{
+    follow(t, 0, s, i + 12) ^ follow(t, 4, s, i + 8) ^ follow(t, 8, s, i + 4) ^ lead(t, 12, c, s, i)
+}
+
+fn eight(t: &Tables, c: u32, s: &[u8], i: usize) -> u32
     requires { ⌜ Tables (now t) × (i + 8 ≤ length (now s)) ⌝ }
     ensures { λ r. ⌜ fed r (drop (i + 8) (now (s .entry))) ≡ fed c (drop i (now (s .entry))) ⌝ }
 {
-    eight(t, (c as u64) ^ u64_at(s, i))
+    follow(t, 0, s, i + 4) ^ lead(t, 4, c, s, i)
 }
 
-// Short inputs, and what is left of long ones: eight bytes at a time, then byte by byte.
+fn one(t: &Tables, c: u32, b: u8) -> u32
+    requires { ⌜ Tables (now t) ⌝ }
+    ensures { λ r. ⌜ r ≡ shifts 8 (bitXor c b) ⌝ }
+{
+    let x = c ^ (b as u32);
+    (x >> 8) ^ look(t, 0, low(x))
+}
+
+// The register start after the bytes of s from place `from` on, of which there are fewer than sixteen.
+fn rest(t: &Tables, start: u32, s: &[u8], from: usize) -> u32
+    requires { ⌜ Tables (now t) × (from ≤ length (now s)) ⌝ }
+    ensures { λ r. ⌜ r ≡ fed start (drop from (now (s .entry))) ⌝ }
+{
+    let mut c = start;
+    let mut i = from;
+    'eights: while 8 <= s.len() - i {
+        c = eight(t, c, s, i);
+        i += 8;
+    }
+    'bytes: while i < s.len() {
+        c = one(t, c, s[i]);
+        i += 1;
+    }
+    c
+}
+
+// Short inputs, and what is left of long ones.
 fn words(t: &Tables, start: u32, s: &[u8]) -> u32
     requires { ⌜ Tables (now t) ⌝ }
     ensures { λ r. ⌜ r ≡ fed start (now (s .entry)) ⌝ }
 {
     let mut c = start;
     let mut i = 0;
-    'words: while 8 <= s.len() - i {
-        c = word(t, c, s, i);
-        i += 8;
+    while 16 <= s.len() - i {
+        c = sixteen(t, c, s, i);
+        i += 16;
     }
-    'bytes: while i < s.len() {
-        c = one(t, c ^ (s[i] as u32));
-        i += 1;
-    }
-    c
+    rest(t, c, s, i)
 }
 
 // The bytes of s go behind the 418 of the history, each with what five earlier ones leave for it.

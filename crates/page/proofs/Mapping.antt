@@ -14,8 +14,9 @@ use lib.Pow.{pow-mono}
 use borrow.Author.Tests.{lt-ltb, le-ltb, eq-eqb, ne-eqb}
 use Rattle.endian.specs.Pick.{pick}
 use Rattle.page.specs.Layout.{pageBytes, freeType, pagesIn, pageAt, typeOf}
-use Rattle.page.specs.Fault.{verdict, verdictOf}
-use Rattle.page.specs.declared.Verdict.{Verdict}
+use Rattle.refusals.specs.Verdict.{verdict}
+use Rattle.page.specs.Fault.{verdictOf}
+use Rattle.refusals.specs.declared.Verdict.{Verdict}
 use Rattle.page.specs.FreeMap.{freeBit, bits, mapBytes, mapLength, freePages, mapVerdict, mapAfter, freeCount}
 use Rattle.page.proofs.Reading.{type-at}
 

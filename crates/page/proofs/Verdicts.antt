@@ -17,10 +17,11 @@ use denote.Enum.Declared.{tagOf}
 use Rattle.endian.specs.Pick.{pick}
 use Rattle.page.specs.Layout.{pageBytes, pageLimit, pagesIn, pageAt}
 use Rattle.page.specs.Good.{Good}
-use Rattle.page.specs.Fault.{faultOf, verdict, accepted, judged, firstBad, sizeWrong, verdictOf}
+use Rattle.refusals.specs.Verdict.{verdict, accepted}
+use Rattle.page.specs.Fault.{faultOf, judged, firstBad, sizeWrong, verdictOf}
 use Rattle.page.specs.declared.Fault.{Fault}
 use Rattle.page.specs.declared.Fault.the-variants.{Sound, MagicOrType, Id, Checksum, Count, FreeStart, FreeEnd, Slot}
-use Rattle.page.specs.declared.Verdict.{Verdict}
+use Rattle.refusals.specs.declared.Verdict.{Verdict}
 use Rattle.page.proofs.Fault.{the-type}
 use Rattle.page.proofs.Picks.{never, cleared}
 use Rattle.page.proofs.FaultLaws.{isSound, sound-good, good-sound}

@@ -5,13 +5,14 @@ use mathlib.Core.Bool.{Bool, true, false}
 use lib.ListN.{length}
 use lib.Dec.{ltb, leb, eqb}
 use Rattle.refusals.specs.Refusal.{pageArea, pageNotGood}
+use Rattle.refusals.specs.Verdict.{verdict, accepted}
 use Rattle.endian.specs.Pick.{pick}
 use Rattle.endian.specs.Numbers.{part}
 use Rattle.crc32c.specs.Crc.{crc32c}
 use Rattle.page.specs.Layout.{pageBytes, bodyBytes, pageLimit, slotLimit, rowHead, dataType, lastType, pagesIn, pageAt, magicOf, typeOf, countOf, crcOf, idOf, freeStartOf, freeEndOf, bodyOf, slotOff, slotLen, deletedOf}
 use Rattle.page.specs.declared.Fault.{Fault}
 use Rattle.page.specs.declared.Fault.the-variants.{Sound, MagicOrType, Id, Checksum, Count, FreeStart, FreeEnd, Slot}
-use Rattle.page.specs.declared.Verdict.{Verdict}
+use Rattle.refusals.specs.declared.Verdict.{Verdict}
 
 -- ---- a slot
 
@@ -71,12 +72,6 @@ faultOf magic index p =
     MagicOrType
 
 -- ---- a page area
-
-abbrev pub verdict : ℕ → ℕ → Verdict
-verdict n at = record { number = n; place = at }
-
-abbrev pub accepted : Verdict
-accepted = verdict 0 0
 
 -- the refusal that a fault of the page at an index is, or what comes after it
 abbrev pub judged : Fault → ℕ → Verdict → Verdict

@@ -6,8 +6,9 @@ use lib.Dec.{ltb, eqb}
 use Rattle.refusals.specs.Refusal.{mapShort}
 use Rattle.endian.specs.Pick.{pick}
 use Rattle.page.specs.Layout.{freeType, pagesIn, pageAt, typeOf}
-use Rattle.page.specs.Fault.{verdict, accepted, verdictOf}
-use Rattle.page.specs.declared.Verdict.{Verdict}
+use Rattle.refusals.specs.Verdict.{verdict, accepted}
+use Rattle.page.specs.Fault.{verdictOf}
+use Rattle.refusals.specs.declared.Verdict.{Verdict}
 
 -- 1 where page i is lent and has type 4, else 0
 unfoldable pub freeBit : List ℕ → ℕ → ℕ

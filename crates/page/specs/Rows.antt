@@ -7,7 +7,7 @@ use lib.Dec.{ltb, leb, eqb}
 use Rattle.endian.specs.Pick.{pick, consIf}
 use Rattle.page.specs.Layout.{dataType, pagesIn, pageAt, typeOf, countOf, slotAt, deletedOf}
 use Rattle.page.specs.Fault.{verdictOf}
-use Rattle.page.specs.declared.Verdict.{Verdict}
+use Rattle.refusals.specs.declared.Verdict.{Verdict}
 use Rattle.page.specs.declared.Row.{Row}
 use Rattle.page.specs.declared.NextRow.{NextRow}
 use Rattle.page.specs.declared.NextRow.the-variants.{Refused, At, NoMore}

@@ -19,7 +19,6 @@ use crate::PAGE_BYTES;
 use crate::PAGE_LIMIT;
 use crate::PageHead;
 use crate::SLOT_LIMIT;
-use crate::Verdict;
 use crate::faults::slots_fault;
 use crate::writer::copy_in;
 use crate::writer::off_of;
@@ -37,6 +36,7 @@ use endian::inner::u32_at;
 use endian::inner::u64_at;
 use refusals::PAGE_AREA;
 use refusals::PAGE_NOT_GOOD;
+use refusals::Verdict;
 
 // Where in a page the offset and the length of slot 0 stand; a slot has four bytes.
 const OFFSETS_AT: usize = HEAD_BYTES;

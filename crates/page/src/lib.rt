@@ -6,6 +6,7 @@ ghost use Rattle.page.specs.FreeMap.{mapVerdict, freeCount, mapAfter};
 use endian::Lsn;
 use endian::PageNumber;
 use refusals::MAP_SHORT;
+use refusals::Verdict;
 
 mod faults;
 pub mod inner;
@@ -48,12 +49,6 @@ pub enum Fault {
     FreeStart,
     FreeEnd,
     Slot(usize),
-}
-
-// A refusal's number and place; number 0 is none.
-pub struct Verdict {
-    pub number: u64,
-    pub place: u64,
 }
 
 // What a page's header holds besides what the writer works out, and its reserved bytes.

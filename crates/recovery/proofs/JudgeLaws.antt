@@ -11,10 +11,11 @@ use Rattle.wal.specs.Entry.{Entry, sizeOf}
 use Rattle.wal.specs.Read.{first, headerFault}
 use Rattle.wal.specs.Walk.{entries}
 use Rattle.page.specs.Layout.{pagesIn}
-use Rattle.page.specs.Fault.{verdict, accepted, sizeWrong}
-use Rattle.page.specs.declared.Verdict.{Verdict}
+use Rattle.refusals.specs.Verdict.{verdict, accepted, _then_}
+use Rattle.page.specs.Fault.{sizeWrong}
+use Rattle.refusals.specs.declared.Verdict.{Verdict}
 use Rattle.rules.specs.Shape.{both, isKnown, isShaped}
-use Rattle.rules.specs.Order.{one, count, any, isBegin, lastLsn, inOrder, clashes, fullAt, neverFull, faultAfter, orElse, orderFrom, logVerdict, _then_}
+use Rattle.rules.specs.Order.{one, count, any, isBegin, lastLsn, inOrder, clashes, fullAt, neverFull, faultAfter, orElse, orderFrom, logVerdict}
 use Rattle.rules.specs.Recover.{pagesFrom, strayFrom, tightFrom, recoverVerdict}
 use Rattle.rules.proofs.Tests.{into, past}
 use Rattle.rules.proofs.OrderLaws.{InTurn, in-turn}

@@ -15,9 +15,9 @@ use Rattle.endian.proofs.Places.{part-take, part-drop}
 use Rattle.wal.specs.Read.{first}
 use Rattle.wal.specs.Walk.{entries}
 use Rattle.page.specs.Layout.{pageBytes, dataType, pagesIn, pageAt, typeOf, slotAt}
-use Rattle.page.specs.Fault.{verdict, accepted}
+use Rattle.refusals.specs.Verdict.{verdict, accepted}
 use Rattle.page.specs.Good.{TupleGood}
-use Rattle.page.specs.declared.Verdict.{Verdict}
+use Rattle.refusals.specs.declared.Verdict.{Verdict}
 use Rattle.rules.specs.Shape.{stamped}
 use Rattle.rules.specs.Order.{neverFull}
 use Rattle.rules.specs.Mend.{committed, topOf, decided}

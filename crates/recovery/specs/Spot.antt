@@ -8,7 +8,7 @@ use lib.ListN.{length}
 use lib.Dec.{eqb}
 use Rattle.endian.specs.Pick.{pick}
 use Rattle.endian.specs.Numbers.{part}
-use Rattle.page.specs.Fault.{verdict}
+use Rattle.refusals.specs.Verdict.{verdict}
 use Rattle.rules.specs.Row.{rowVerdict, tupleOf, rowOf, rowPayload}
 use Rattle.rules.specs.declared.RowHead.{RowHead}
 use Rattle.images.specs.declared.Image.{Image}

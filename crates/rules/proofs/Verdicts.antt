@@ -17,12 +17,13 @@ use Rattle.wal.specs.Walk.{entries}
 use Rattle.page.specs.Layout.{pageBytes, bodyBytes, dataType, pagesIn, pageAt, typeOf, lsnOf}
 use Rattle.page.specs.Packed.{roomFor}
 use Rattle.page.specs.Good.{Good}
-use Rattle.page.specs.Fault.{verdict, accepted, judged, faultOf, sizeWrong}
-use Rattle.page.specs.declared.Verdict.{Verdict}
+use Rattle.refusals.specs.Verdict.{verdict, accepted, _then_}
+use Rattle.page.specs.Fault.{judged, faultOf, sizeWrong}
+use Rattle.refusals.specs.declared.Verdict.{Verdict}
 use Rattle.page.specs.declared.Fault.{Fault}
 use Rattle.page.specs.declared.Fault.the-variants.{Sound, MagicOrType, Id, Checksum, Count, FreeStart, FreeEnd, Slot}
 use Rattle.rules.specs.Shape.{both, either, isChange, pageOf, slotOf, isOn, topOn}
-use Rattle.rules.specs.Order.{lastLsn, logVerdict, _then_}
+use Rattle.rules.specs.Order.{lastLsn, logVerdict}
 use Rattle.rules.specs.Mend.{committed, topOf, slotsFor, Accepts}
 use Rattle.rules.specs.Recover.{pagesFrom, isStray, strayFrom, isTouched, isTight, tightFrom, recoverVerdict}
 use Rattle.rules.proofs.Tests.{both-true, either-false, false-true}

@@ -11,10 +11,11 @@ use Rattle.wal.specs.Read.{first}
 use Rattle.wal.specs.Walk.{entries, endOf}
 use Rattle.page.specs.Layout.{bodyBytes, dataType, pagesIn, pageAt, typeOf, lsnOf}
 use Rattle.page.specs.Packed.{roomFor}
-use Rattle.page.specs.Fault.{verdict, accepted, judged, faultOf, sizeWrong}
-use Rattle.page.specs.declared.Verdict.{Verdict}
+use Rattle.refusals.specs.Verdict.{verdict, accepted, _then_}
+use Rattle.page.specs.Fault.{judged, faultOf, sizeWrong}
+use Rattle.refusals.specs.declared.Verdict.{Verdict}
 use Rattle.rules.specs.Shape.{both, either, isChange, pageOf}
-use Rattle.rules.specs.Order.{one, count, any, is, isBegin, lastLsn, fullAt, logVerdict, _then_}
+use Rattle.rules.specs.Order.{one, count, any, is, isBegin, lastLsn, fullAt, logVerdict}
 use Rattle.rules.specs.Mend.{committed, topOf, slotsFor, mend}
 use Rattle.rules.specs.declared.Answer.{Answer}
 use Rattle.rules.specs.declared.Record.{Record}

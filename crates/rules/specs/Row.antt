@@ -8,9 +8,9 @@ use Rattle.refusals.specs.Refusal.{noSuchPage}
 use Rattle.endian.specs.Pick.{pick}
 use Rattle.wal.specs.Walk.{entries}
 use Rattle.page.specs.Layout.{dataType, pagesIn, pageAt, typeOf, slotAt, xminOf, xmaxOf, deletedOf, payloadOf}
-use Rattle.page.specs.Fault.{verdict, accepted}
-use Rattle.page.specs.declared.Verdict.{Verdict}
-use Rattle.rules.specs.Order.{neverFull, _then_}
+use Rattle.refusals.specs.Verdict.{verdict, accepted, _then_}
+use Rattle.refusals.specs.declared.Verdict.{Verdict}
+use Rattle.rules.specs.Order.{neverFull}
 use Rattle.rules.specs.Mend.{committed, decided}
 use Rattle.rules.specs.Recover.{recoverVerdict}
 use Rattle.rules.specs.declared.RowHead.{RowHead}

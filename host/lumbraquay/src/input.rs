@@ -6,7 +6,8 @@ use library::{Verdict, LOG_LIMIT_BYTES, PAGE_BYTES, PAGE_LIMIT};
 
 use crate::args::Parsed;
 use crate::failure::Failure;
-use crate::files;
+use crate::files::{self, Seen, Whole};
+use crate::held::Held;
 use crate::json::Json;
 
 /// A page file and its magic.
@@ -17,13 +18,30 @@ pub struct Pages {
     pub length: u64,
     pub magic: u64,
     magic_given: bool,
+    pub seen: Seen,
 }
 
 impl Pages {
     /// Reads the page file that is the first thing a command takes.
     pub fn read(parsed: &Parsed) -> Result<Pages, Failure> {
+        Pages::of(
+            parsed,
+            files::read(parsed.path(0), PAGE_BYTES * PAGE_LIMIT)?,
+        )
+    }
+
+    /// The same of a page file that is held to be replaced.
+    pub fn read_held(parsed: &Parsed, held: &Held) -> Result<Pages, Failure> {
+        Pages::of(parsed, held.read(PAGE_BYTES * PAGE_LIMIT)?)
+    }
+
+    fn of(parsed: &Parsed, whole: Whole) -> Result<Pages, Failure> {
         let path = parsed.path(0);
-        let files::Whole { bytes, length } = files::read(path, PAGE_LIMIT * PAGE_BYTES)?;
+        let Whole {
+            bytes,
+            length,
+            seen,
+        } = whole;
         if bytes.is_empty() {
             return Err(Failure::file("use", path, "it is empty and holds no page"));
         }
@@ -34,6 +52,7 @@ impl Pages {
             magic_given: given.is_some(),
             bytes,
             length,
+            seen,
         })
     }
 
@@ -88,15 +107,21 @@ pub struct Log {
     pub bytes: Vec<u8>,
     /// The file's length, of which no more bytes are read than the library would take and one.
     pub length: u64,
+    pub seen: Seen,
 }
 
 impl Log {
     pub fn read(path: &Path) -> Result<Log, Failure> {
-        let files::Whole { bytes, length } = files::read(path, LOG_LIMIT_BYTES)?;
+        let Whole {
+            bytes,
+            length,
+            seen,
+        } = files::read(path, LOG_LIMIT_BYTES)?;
         Ok(Log {
             path: path.to_path_buf(),
             bytes,
             length,
+            seen,
         })
     }
 

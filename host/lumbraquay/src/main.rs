@@ -3,24 +3,57 @@
 mod advice;
 mod args;
 mod commands;
+mod done;
 mod failure;
 mod files;
+mod fresh;
+mod held;
 mod input;
 mod json;
+mod memory;
 mod output;
 mod portal;
 mod show;
+mod sys;
 
 use std::ffi::OsString;
 use std::process::ExitCode;
+use std::thread;
 
 use args::{Command, Parsed};
-use failure::Failure;
+use failure::{note, Failure};
 use output::Output;
 
 const VERSION: &str = env!("CARGO_PKG_VERSION");
 
+/// The library works in under 1 MiB of stack; this leaves as much again, and more, for the command.
+const STACK_BYTES: usize = 4 << 20;
+
+/// Runs the command on a thread whose stack is known to suffice.
 fn main() -> ExitCode {
+    memory::prepare();
+    let thread = thread::Builder::new().stack_size(STACK_BYTES);
+    let status = match thread.spawn(work) {
+        Ok(thread) => thread.join().unwrap_or_else(|_| {
+            note(format_args!("internal error; {}", done::so_far()));
+            if done::marked().is_some() {
+                4
+            } else {
+                2
+            }
+        }),
+        Err(error) => {
+            note(format_args!(
+                "no room for a stack of {STACK_BYTES} bytes: {error}"
+            ));
+            2
+        }
+    };
+    ExitCode::from(status)
+}
+
+/// Does what the words of the command line say, and gives the exit status.
+fn work() -> u8 {
     let words: Vec<OsString> = std::env::args_os().skip(1).collect();
     let mut output = Output::standard();
     let done = run(&words, &mut output);
@@ -29,11 +62,14 @@ fn main() -> ExitCode {
         Err(failure) if done.is_ok() => Err(failure),
         _ => done,
     };
-    match done {
-        Ok(()) => ExitCode::SUCCESS,
+    match done.map_err(Failure::after_changes) {
+        Ok(()) => 0,
         Err(failure) => {
             failure.tell();
-            ExitCode::from(failure.status())
+            if let Failure::Stopped(number) = failure {
+                sys::end_by(number);
+            }
+            failure.status()
         }
     }
 }
@@ -91,5 +127,5 @@ fn overview() -> String {
         text += &format!("  {:<9} {}\n", command.name, command.about);
     }
     text + "\n`lumbraquay COMMAND --help` tells more. Exit status: 0 done, 3 refused (the answer says why), 2 wrong use \
-            or trouble\nwith a file. A refusal never changes a file.\n"
+            or trouble\nwith a file, 4 done, but the report could not be written. 2 and 3 leave every file as it was.\n"
 }

@@ -8,8 +8,10 @@ use crate::advice::unless_refused;
 use crate::args::{Choice, Command, Parsed, FLOOR, JSON, MAGIC};
 use crate::failure::Failure;
 use crate::files;
+use crate::held::Held;
 use crate::input::{verdict_fields, Log, Pages, Read};
 use crate::json::Json;
+use crate::memory;
 use crate::output::Output;
 use crate::show;
 
@@ -20,7 +22,7 @@ pub const COMMAND: Command = Command {
     options: &[
         Choice::value("--out", "FILE", "the new file; PAGES.recovered where not given"),
         Choice::flag("--force", "replace the new file if it exists"),
-        Choice::flag("--in-place", "replace PAGES itself and keep it as PAGES.bak (.bak2, .bak3 and so on where that exists)"),
+        Choice::flag("--in-place", "replace PAGES itself and keep a copy as PAGES.bak (.bak2, .bak3 and so on where that exists)"),
         Choice::flag("--dry-run", "write nothing"),
         MAGIC,
         FLOOR,
@@ -29,14 +31,16 @@ pub const COMMAND: Command = Command {
         JSON,
     ],
     more: "The new file is written under another name in the same directory, synced and renamed, so it is never seen half-written.\n\
-           A run that was broken off may be repeated. The log file is never changed.",
+           A run that was broken off may be repeated. The log file is never changed.\n\
+           --in-place takes the lock of PAGES (flock) and stops, with all as it was, if another process holds it, has PAGES open for\n\
+           writing, or changes PAGES or LOG before the end. Owner, rights, extended attributes and access lists are kept.",
     run,
 };
 
 /// Where the recovered pages go.
 enum Target {
     New(PathBuf),
-    InPlace,
+    InPlace(Held),
     Nowhere,
 }
 
@@ -66,20 +70,29 @@ pub fn recover(parsed: &Parsed, output: &mut Output) -> Result<Report, Failure> 
         let what = "--in-place goes with neither --out nor --force";
         return Err(parsed.wrong(what.to_string()));
     }
-    let old = Pages::read(parsed)?;
+    let held = match parsed.flag("--in-place") && !parsed.flag("--dry-run") {
+        true => Some(Held::take(parsed.path(0))?),
+        false => None,
+    };
+    let old = match &held {
+        Some(held) => Pages::read_held(parsed, held)?,
+        None => Pages::read(parsed)?,
+    };
     let log = Log::read(parsed.path(1))?;
-    let target = target(parsed)?;
+    let target = target(parsed, held)?;
 
-    let mut new = old.bytes.clone();
-    let mut table = vec![0; RECORD_NUMBERS * records(&log, most_records)];
+    let mut new = memory::room(old.bytes.len())?;
+    new.extend_from_slice(&old.bytes);
+    let numbers = RECORD_NUMBERS * records(&log, most_records);
+    let mut table = memory::room(numbers)?;
+    table.resize(numbers, 0);
     let answer = library::recover(old.magic, floor, &mut new, &log.bytes, &mut table);
     unless_refused(parsed, output, answer.verdict(), Read::both(&old, &log))?;
     let transactions = answer.committed + answer.rolled_back + answer.unended;
-    let records: Vec<Record> = library::records(&table)
-        .take(transactions as usize)
-        .collect();
+    let mut records = memory::room(transactions as usize)?;
+    records.extend(library::records(&table).take(transactions as usize));
 
-    let written = write(parsed, target, &old, &new)?;
+    let written = write(parsed, target, &old, &log, &new)?;
     Ok(Report {
         pages: old,
         log,
@@ -100,12 +113,12 @@ fn records(log: &Log, most: Option<u64>) -> usize {
 }
 
 /// Where the pages are to go; whatever forbids that is told before any work.
-fn target(parsed: &Parsed) -> Result<Target, Failure> {
+fn target(parsed: &Parsed, held: Option<Held>) -> Result<Target, Failure> {
     if parsed.flag("--dry-run") {
         return Ok(Target::Nowhere);
     }
-    if parsed.flag("--in-place") {
-        return Ok(Target::InPlace);
+    if let Some(held) = held {
+        return Ok(Target::InPlace(held));
     }
     let out = match parsed.chosen_path("--out") {
         Some(out) => out.to_path_buf(),
@@ -124,16 +137,24 @@ fn target(parsed: &Parsed) -> Result<Target, Failure> {
     Ok(Target::New(out))
 }
 
-fn write(parsed: &Parsed, target: Target, old: &Pages, new: &[u8]) -> Result<Written, Failure> {
+fn write(
+    parsed: &Parsed,
+    target: Target,
+    old: &Pages,
+    log: &Log,
+    new: &[u8],
+) -> Result<Written, Failure> {
     match target {
         Target::Nowhere => Ok(Written::Nothing),
-        Target::InPlace if old.bytes == new => Ok(Written::Unchanged),
-        Target::InPlace => {
-            let backup = files::replace(&old.path, &old.bytes, new)?;
+        Target::InPlace(_) if old.bytes == new => Ok(Written::Unchanged),
+        Target::InPlace(held) => {
+            let backup = held.replace(&log.seen, &old.bytes, new)?;
             Ok(Written::Replaced { backup })
         }
         Target::New(out) => {
-            files::write_new(&out, new, Some(&old.path), parsed.flag("--force"))?;
+            old.seen.must_be_as_read()?;
+            log.seen.must_be_as_read()?;
+            files::write_new(&out, new, Some(&old.seen), parsed.flag("--force"))?;
             Ok(Written::New(out))
         }
     }
@@ -203,8 +224,9 @@ impl Report {
             Written::New(path) => format!("recovered: written to {}", path.display()),
             Written::Replaced { backup } => {
                 format!(
-                    "recovered: {pages} replaced, the old file is {}",
-                    backup.display()
+                    "recovered: {pages} replaced; {} has the {} bytes that were read from it",
+                    backup.display(),
+                    self.pages.length
                 )
             }
             Written::Unchanged => {

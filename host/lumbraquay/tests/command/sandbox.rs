@@ -83,16 +83,7 @@ impl Sandbox {
     }
 
     fn finish(&self, command: &mut Command) -> Done {
-        let Output {
-            status,
-            stdout,
-            stderr,
-        } = command.current_dir(&self.path).output().unwrap();
-        Done {
-            status: status.code(),
-            out: String::from_utf8(stdout).unwrap(),
-            err: String::from_utf8(stderr).unwrap(),
-        }
+        Done::of(command.current_dir(&self.path).output().unwrap())
     }
 }
 
@@ -111,6 +102,14 @@ pub struct Done {
 }
 
 impl Done {
+    pub fn of(output: Output) -> Done {
+        Done {
+            status: output.status.code(),
+            out: String::from_utf8(output.stdout).unwrap(),
+            err: String::from_utf8(output.stderr).unwrap(),
+        }
+    }
+
     #[track_caller]
     pub fn ends(self, status: i32) -> Done {
         assert_eq!(self.status, Some(status), "{self:#?}");
