@@ -91,21 +91,6 @@ fn follow(t: &Tables, k: usize, s: &[u8], i: usize) -> u32
         ^ look(t, k + 3, s[i])
 }
 
-// The register c after the sixteen bytes of s at i. Only the first four wait for c, and go in last.
-fn sixteen(t: &Tables, c: u32, s: &[u8], i: usize) -> u32
-    requires { ⌜ Tables (now t) × (i + 16 ≤ length (now s)) ⌝ }
-    ensures { λ r. ⌜ fed r (drop (i + 16) (now (s .entry))) ≡ fed c (drop i (now (s .entry))) ⌝ }
-{
-    follow(t, 0, s, i + 12) ^ follow(t, 4, s, i + 8) ^ follow(t, 8, s, i + 4) ^ lead(t, 12, c, s, i)
-}
-
-fn eight(t: &Tables, c: u32, s: &[u8], i: usize) -> u32
-    requires { ⌜ Tables (now t) × (i + 8 ≤ length (now s)) ⌝ }
-    ensures { λ r. ⌜ fed r (drop (i + 8) (now (s .entry))) ≡ fed c (drop i (now (s .entry))) ⌝ }
-{
-    follow(t, 0, s, i + 4) ^ lead(t, 4, c, s, i)
-}
-
 fn one(t: &Tables, c: u32, b: u8) -> u32
     requires { ⌜ Tables (now t) ⌝ }
     ensures { λ r. ⌜ r ≡ shifts 8 (bitXor c b) ⌝ }
@@ -114,7 +99,7 @@ fn one(t: &Tables, c: u32, b: u8) -> u32
     (x >> 8) ^ look(t, 0, low(x))
 }
 
-// The register start after the bytes of s from place `from` on, of which there are fewer than sixteen.
+// The register start after the bytes of s from place `from` on: the end of what `words` goes over.
 fn rest(t: &Tables, start: u32, s: &[u8], from: usize) -> u32
     requires { ⌜ Tables (now t) × (from ≤ length (now s)) ⌝ }
     ensures { λ r. ⌜ r ≡ fed start (drop from (now (s .entry))) ⌝ }
@@ -122,8 +107,12 @@ fn rest(t: &Tables, start: u32, s: &[u8], from: usize) -> u32
     let mut c = start;
     let mut i = from;
     'eights: while 8 <= s.len() - i {
-        c = eight(t, c, s, i);
+        c = follow(t, 0, s, i + 4) ^ lead(t, 4, c, s, i);
         i += 8;
+    }
+    'fours: while 4 <= s.len() - i {
+        c = lead(t, 0, c, s, i);
+        i += 4;
     }
     'bytes: while i < s.len() {
         c = one(t, c, s[i]);
@@ -132,7 +121,7 @@ fn rest(t: &Tables, start: u32, s: &[u8], from: usize) -> u32
     c
 }
 
-// Short inputs, and what is left of long ones.
+// Short inputs: sixteen bytes at a time. Only the first four wait for the register, so they go in last.
 fn words(t: &Tables, start: u32, s: &[u8]) -> u32
     requires { ⌜ Tables (now t) ⌝ }
     ensures { λ r. ⌜ r ≡ fed start (now (s .entry)) ⌝ }
@@ -140,7 +129,10 @@ fn words(t: &Tables, start: u32, s: &[u8]) -> u32
     let mut c = start;
     let mut i = 0;
     while 16 <= s.len() - i {
-        c = sixteen(t, c, s, i);
+        c = follow(t, 0, s, i + 12)
+            ^ follow(t, 4, s, i + 8)
+            ^ follow(t, 8, s, i + 4)
+            ^ lead(t, 12, c, s, i);
         i += 16;
     }
     rest(t, c, s, i)
@@ -207,7 +199,7 @@ fn mix(p: &[u8; 2402], n: usize, s: &[u8], o: &mut [u8; 448])
 fn near(s: &[u8; 448], o: &mut [u8; 224])
     requires { ⌜ length (now o) ≡ 224 ⌝ }
     requires { ⌜ Room 448 (now s) ⌝ }
-    ensures { λ _. ⌜ fed 0 (now (o .exit)) ≡ fed 0 (now (s .entry)) ⌝ }
+    ensures { λ _. ⌜ (length (now (o .exit)) ≡ 224) × (fed 0 (now (o .exit)) ≡ fed 0 (now (s .entry))) ⌝ }
 {
     let mut p = [0u8; 592];
     let mut j: usize = 0;
@@ -222,11 +214,21 @@ fn near(s: &[u8; 448], o: &mut [u8; 224])
     }
 }
 
-fn short(t: &Tables, s: &[u8; 224]) -> u32
-    requires { ⌜ Tables (now t) ⌝ }
+// What is left of a long input, in the same steps; a call of `words` would have its own frame, and short inputs would pay for it.
+fn last(t: &Tables, s: &[u8; 224]) -> u32
+    requires { ⌜ Tables (now t) × (length (now s) ≡ 224) ⌝ }
     ensures { λ r. ⌜ r ≡ fed 0 (now (s .entry)) ⌝ }
 {
-    words(t, 0, s)
+    let mut c: u32 = 0;
+    let mut i: usize = 0;
+    while i < 224 {
+        c = follow(t, 0, s, i + 12)
+            ^ follow(t, 4, s, i + 8)
+            ^ follow(t, 8, s, i + 4)
+            ^ lead(t, 12, c, s, i);
+        i += 16;
+    }
+    c
 }
 
 // The register after the last 448 bytes.
@@ -239,7 +241,7 @@ fn tail(t: &Tables, p: &[u8; 2402], n: usize, s: &[u8]) -> u32
     mix(p, n, s, &mut o);
     let mut q = [0u8; 224];
     near(&o, &mut q);
-    short(t, &q)
+    last(t, &q)
 }
 
 // The register c after the bytes of s, of which there are at least 448. It stands in the first four bytes of the history.

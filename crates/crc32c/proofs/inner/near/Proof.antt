@@ -50,7 +50,7 @@ returns c =
     let k = c .before .before .before .fill in
     let e = c .before .before .before .before in
     let j : k .j ≡ 224 = omega arith in
-    nearer _ (k .p) (l .o) (k .inv .3) (e .pre .1 .size) (l .inv .2) (rw j at (k .inv .1)) (λ m b. k .inv .2 m (omega arith)) (λ m b. l .inv .1 m (omega arith))
+    (l .inv .2, nearer _ (k .p) (l .o) (k .inv .3) (e .pre .1 .size) (l .inv .2) (rw j at (k .inv .1)) (λ m b. k .inv .2 m (omega arith)) (λ m b. l .inv .1 m (omega arith)))
 
 pub near-spec : {M : Type 1} → statement M
 near-spec =

@@ -8,7 +8,7 @@ mix-requires : tie.Need-mix-requires
 mix-requires c κs = let e = c .before .before in ((e .pre .0 .1, e .pre .0 .2), (e .pre .1, room-zeros 448))
 
 returns : tie.Need-returns
-returns c = c .short .ensures ∙ cc
+returns c = c .last .ensures ∙ cc
 
 pub tail-spec : {M : Type 1} → statement M
 tail-spec = tie.close
