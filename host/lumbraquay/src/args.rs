@@ -58,6 +58,12 @@ pub const FLOOR: Choice = Choice::value(
     "all up to this LSN is known to be flushed; 0 where not given",
 );
 
+pub const LOG_UNTIL: Choice = Choice::value(
+    "--log-until",
+    "OFFSET",
+    "take only the log before this byte, as if the power had failed there",
+);
+
 impl Command {
     pub fn usage(&self) -> String {
         let mut text = format!("lumbraquay {}", self.name);
@@ -87,7 +93,7 @@ impl Command {
             .iter()
             .map(|(name, about)| (name.to_string(), *about));
         for (name, about) in takes.chain(choices) {
-            text += &format!("  {name:<16} {about}\n");
+            text += &format!("  {name:<18} {about}\n");
         }
         if !self.more.is_empty() {
             text += &format!("\n{}\n", self.more);

@@ -1,8 +1,8 @@
 //! The two files that commands read, and the options that say how.
 
-use std::path::{Path, PathBuf};
+use std::path::PathBuf;
 
-use library::{Verdict, LOG_LIMIT_BYTES, PAGE_BYTES, PAGE_LIMIT};
+use library::{Verdict, LOG_HEAD_BYTES, LOG_LIMIT_BYTES, PAGE_BYTES, PAGE_LIMIT};
 
 use crate::args::Parsed;
 use crate::failure::Failure;
@@ -107,32 +107,51 @@ pub struct Log {
     pub bytes: Vec<u8>,
     /// The file's length, of which no more bytes are read than the library would take and one.
     pub length: u64,
+    /// Up to where it is taken, if not to its end.
+    pub until: Option<u64>,
     pub seen: Seen,
 }
 
 impl Log {
-    pub fn read(path: &Path) -> Result<Log, Failure> {
+    /// Reads the log file that a command takes at an index, up to --log-until if that is given.
+    pub fn read(parsed: &Parsed, index: usize) -> Result<Log, Failure> {
+        let path = parsed.path(index);
         let Whole {
-            bytes,
+            mut bytes,
             length,
             seen,
         } = files::read(path, LOG_LIMIT_BYTES)?;
+        let until = parsed.chosen_number("--log-until")?;
+        if let Some(until) = until {
+            if until < LOG_HEAD_BYTES as u64 || until > length {
+                return Err(parsed.wrong(format!(
+                    "--log-until is {until}, not from 32, where entries start, to {length}, where the log ends"
+                )));
+            }
+            bytes.truncate(usize::try_from(until).unwrap_or(usize::MAX));
+        }
         Ok(Log {
             path: path.to_path_buf(),
             bytes,
             length,
+            until,
             seen,
         })
     }
 
     pub fn line(&self) -> String {
-        format!("{}: {} bytes", self.path.display(), self.bytes.len())
+        let until = match self.until {
+            Some(until) => format!(", taken up to {until}"),
+            None => String::new(),
+        };
+        format!("{}: {} bytes{until}", self.path.display(), self.length)
     }
 
     pub fn fields(&self) -> Vec<(&'static str, Json)> {
         vec![
             ("log_file", Json::text(self.path.display())),
-            ("log_bytes", self.bytes.len().into()),
+            ("log_bytes", self.length.into()),
+            ("log_until", self.until.map_or(Json::Null, Json::from)),
         ]
     }
 }
@@ -142,6 +161,7 @@ impl Log {
 pub struct Read<'a> {
     pub pages: Option<&'a Pages>,
     pub log: Option<&'a Log>,
+    pub floor: u64,
 }
 
 impl<'a> Read<'a> {
@@ -149,6 +169,7 @@ impl<'a> Read<'a> {
         Read {
             pages: Some(pages),
             log: None,
+            floor: 0,
         }
     }
 
@@ -156,13 +177,15 @@ impl<'a> Read<'a> {
         Read {
             pages: None,
             log: Some(log),
+            floor: 0,
         }
     }
 
-    pub fn both(pages: &'a Pages, log: &'a Log) -> Read<'a> {
+    pub fn both(pages: &'a Pages, log: &'a Log, floor: u64) -> Read<'a> {
         Read {
             pages: Some(pages),
             log: Some(log),
+            floor,
         }
     }
 }

@@ -6,6 +6,7 @@ mod commands;
 mod done;
 mod failure;
 mod files;
+mod found;
 mod fresh;
 mod held;
 mod input;
@@ -15,6 +16,7 @@ mod output;
 mod portal;
 mod show;
 mod sys;
+mod walk;
 
 use std::ffi::OsString;
 use std::process::ExitCode;

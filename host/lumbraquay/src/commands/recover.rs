@@ -5,7 +5,7 @@ use std::path::{Path, PathBuf};
 use library::{Answer, Record, LOG_HEAD_BYTES, RECORD_NUMBERS, SHORTEST_ENTRY_BYTES};
 
 use crate::advice::unless_refused;
-use crate::args::{Choice, Command, Parsed, FLOOR, JSON, MAGIC};
+use crate::args::{Choice, Command, Parsed, FLOOR, JSON, LOG_UNTIL, MAGIC};
 use crate::failure::Failure;
 use crate::files;
 use crate::held::Held;
@@ -26,6 +26,7 @@ pub const COMMAND: Command = Command {
         Choice::flag("--dry-run", "write nothing"),
         MAGIC,
         FLOOR,
+        LOG_UNTIL,
         Choice::value("--records", "N", "refuse a log of more transactions than this"),
         Choice::flag("--transactions", "list what became of each transaction"),
         JSON,
@@ -78,7 +79,7 @@ pub fn recover(parsed: &Parsed, output: &mut Output) -> Result<Report, Failure> 
         Some(held) => Pages::read_held(parsed, held)?,
         None => Pages::read(parsed)?,
     };
-    let log = Log::read(parsed.path(1))?;
+    let log = Log::read(parsed, 1)?;
     let target = target(parsed, held)?;
 
     let mut new = memory::room(old.bytes.len())?;
@@ -87,7 +88,12 @@ pub fn recover(parsed: &Parsed, output: &mut Output) -> Result<Report, Failure> 
     let mut table = memory::room(numbers)?;
     table.resize(numbers, 0);
     let answer = library::recover(old.magic, floor, &mut new, &log.bytes, &mut table);
-    unless_refused(parsed, output, answer.verdict(), Read::both(&old, &log))?;
+    unless_refused(
+        parsed,
+        output,
+        answer.verdict(),
+        Read::both(&old, &log, floor),
+    )?;
     let transactions = answer.committed + answer.rolled_back + answer.unended;
     let mut records = memory::room(transactions as usize)?;
     records.extend(library::records(&table).take(transactions as usize));

@@ -182,9 +182,9 @@ fn little_stack_and_little_memory() {
             format!("ulimit -s {kib}; \"$LQ\" recover outage.pages outage.log --out new --force");
         sandbox.shell(&line).done();
     }
-    // The largest page file, of free pages beside the outage's.
+    // A large page file, of free pages beside the outage's.
     let mut pages = sandbox.read("outage.pages");
-    for id in 4..4_096 {
+    for id in 4..1_024 {
         pages.extend(generate::plain_page(
             u64::from_le_bytes(*b"CRANES01"),
             generate::FREE,
@@ -195,7 +195,7 @@ fn little_stack_and_little_memory() {
     sandbox.write("outage.pages", &pages);
     let before = sandbox.contents();
     let (mut done, mut failed) = (0, 0);
-    for mib in (6..=210).step_by(12) {
+    for mib in (6..=90).step_by(5) {
         for words in ["--dry-run", "--dry-run --json", "--in-place"] {
             let limit = format!("ulimit -v {}", mib * 1_024);
             if sandbox.shell(&format!("{limit}; \"$LQ\" --version")).status != Some(0) {

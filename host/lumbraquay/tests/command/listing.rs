@@ -74,9 +74,8 @@ fn rows_may_be_few() {
         .done()
         .says(&["0 visible rows\n"]);
     sandbox
-        .say("rows outage.pages --page 99")
-        .done()
-        .says(&["0 visible rows\n"]);
+        .say("rows outage.pages --page 4")
+        .refuses(&["refused: 15 NO_SUCH_PAGE\n", "pages 0 to 3"]);
     sandbox
         .say("rows outage.pages --limit 1")
         .done()
