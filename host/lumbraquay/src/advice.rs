@@ -6,7 +6,7 @@ use library::{Verdict, PAGE_BYTES};
 use crate::args::Parsed;
 use crate::failure::Failure;
 use crate::found::{after_damage, found, is_page_file, is_swapped, After};
-use crate::input::{verdict_fields, Log, Read};
+use crate::input::{head_fields, Log, Read};
 use crate::json::Json;
 use crate::output::Output;
 use crate::show;
@@ -22,8 +22,9 @@ pub fn unless_refused(
         return Ok(());
     }
     if parsed.flag("--json") {
-        let mut fields = verdict_fields(parsed, verdict);
+        let mut fields = head_fields(parsed, "refused", verdict);
         fields.extend(refusal_fields(verdict, read));
+        fields.extend(read.fields());
         output.line(Json::Object(fields))?;
         return Err(Failure::Refused(String::new()));
     }

@@ -46,9 +46,11 @@ impl Pages {
             return Err(Failure::file("use", path, "it is empty and holds no page"));
         }
         let given = parsed.chosen_number("--magic")?;
+        let magic = given.unwrap_or_else(|| magic_of_page_0(&bytes));
+        parsed.magic.set(Some(magic));
         Ok(Pages {
             path: path.to_path_buf(),
-            magic: given.unwrap_or_else(|| magic_of_page_0(&bytes)),
+            magic,
             magic_given: given.is_some(),
             bytes,
             length,
@@ -191,12 +193,21 @@ impl<'a> Read<'a> {
 }
 
 /// The fields that every JSON object starts with.
-pub fn verdict_fields(parsed: &Parsed, verdict: Verdict) -> Vec<(&'static str, Json)> {
+pub fn head_fields(parsed: &Parsed, result: &str, verdict: Verdict) -> Vec<(&'static str, Json)> {
     let name = library::refusal::refusal(verdict.number).map_or("DONE", |refusal| refusal.name);
     vec![
         ("command", parsed.name().into()),
+        ("result", result.into()),
         ("number", verdict.number.into()),
         ("name", name.into()),
         ("place", verdict.place.into()),
     ]
+}
+
+impl Read<'_> {
+    pub fn fields(&self) -> Vec<(&'static str, Json)> {
+        let mut fields = self.pages.map_or(Vec::new(), Pages::fields);
+        fields.extend(self.log.map_or(Vec::new(), Log::fields));
+        fields
+    }
 }

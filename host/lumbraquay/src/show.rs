@@ -1,5 +1,7 @@
 //! Numbers and bytes in words.
 
+use crate::plain::quoted;
+
 /// The name of an entry's type.
 pub fn entry_type(number: u64) -> &'static str {
     match number {
@@ -40,15 +42,16 @@ pub fn hex(bytes: &[u8]) -> String {
     bytes.iter().map(|byte| format!("{byte:02x}")).collect()
 }
 
-/// A payload as text if it is printable, else as hexadecimal digits; cut off after so many letters.
+/// A payload as text in quotes if it is text, else as hexadecimal digits after 0x; cut off after so many letters or bytes.
 pub fn payload(bytes: &[u8], most: usize) -> String {
-    let text = match printable(bytes) {
-        Some(text) => text.to_string(),
-        None => hex(bytes),
+    let Some(text) = printable(bytes) else {
+        let shown = &bytes[..bytes.len().min(most / 2)];
+        let more = if shown.len() < bytes.len() { "..." } else { "" };
+        return format!("0x{}{more}", hex(shown));
     };
     match text.char_indices().nth(most) {
-        Some((at, _)) => format!("{}...", &text[..at]),
-        None => text,
+        Some((at, _)) => format!("{}...", quoted(&text[..at])),
+        None => quoted(text),
     }
 }
 

@@ -6,7 +6,7 @@ use library::{Step, Verdict, LOG_HEAD_BYTES, STEP_DAMAGED, STEP_END, STEP_ENTRY,
 use crate::advice::{refusal_fields, text, unless_refused};
 use crate::args::{Choice, Command, Parsed, JSON};
 use crate::failure::Failure;
-use crate::input::{verdict_fields, Log, Read};
+use crate::input::{head_fields, Log, Read};
 use crate::json::Json;
 use crate::output::Output;
 use crate::show;
@@ -188,7 +188,12 @@ fn list_json(
     })?;
     let (end, kind) = end_of(log, start, stopped);
     let verdict = damage(&end).unwrap_or_default();
-    let mut fields = verdict_fields(parsed, verdict);
+    let result = if verdict.number == 0 {
+        "done"
+    } else {
+        "refused"
+    };
+    let mut fields = head_fields(parsed, result, verdict);
     if verdict.number != 0 {
         fields.extend(refusal_fields(verdict, Read::log(log)));
     }

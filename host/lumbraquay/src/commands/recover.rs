@@ -9,7 +9,7 @@ use crate::args::{Choice, Command, Parsed, FLOOR, JSON, LOG_UNTIL, MAGIC};
 use crate::failure::Failure;
 use crate::files;
 use crate::held::Held;
-use crate::input::{verdict_fields, Log, Pages, Read};
+use crate::input::{head_fields, Log, Pages, Read};
 use crate::json::Json;
 use crate::memory;
 use crate::output::Output;
@@ -56,7 +56,7 @@ enum Written {
 fn run(parsed: &Parsed, output: &mut Output) -> Result<(), Failure> {
     let report = recover(parsed, output)?;
     if parsed.flag("--json") {
-        let mut fields = verdict_fields(parsed, report.answer.verdict());
+        let mut fields = head_fields(parsed, report.result(), report.answer.verdict());
         fields.extend(report.fields());
         return output.line(Json::Object(fields));
     }
@@ -222,6 +222,15 @@ impl Report {
             }
         }
         output.line(self.written())
+    }
+
+    /// What became of it, in a word.
+    fn result(&self) -> &'static str {
+        match &self.written {
+            Written::New(_) | Written::Replaced { .. } => "done",
+            Written::Unchanged => "unchanged",
+            Written::Nothing => "dry-run",
+        }
     }
 
     fn written(&self) -> String {

@@ -5,7 +5,7 @@ use library::{Row, FROM_LOG};
 use crate::advice::unless_refused;
 use crate::args::{Command, Parsed, FLOOR, JSON, LOG_UNTIL, MAGIC};
 use crate::failure::Failure;
-use crate::input::{verdict_fields, Log, Pages, Read};
+use crate::input::{head_fields, Log, Pages, Read};
 use crate::json::Json;
 use crate::output::Output;
 use crate::show;
@@ -41,7 +41,7 @@ fn run(parsed: &Parsed, output: &mut Output) -> Result<(), Failure> {
 
     let payload = row.payload(lent, lent_log);
     if parsed.flag("--json") {
-        let mut fields = verdict_fields(parsed, row.verdict());
+        let mut fields = head_fields(parsed, "done", row.verdict());
         fields.extend(pages.fields());
         fields.extend(log.fields());
         fields.extend([

@@ -9,7 +9,7 @@ use library::{Verdict, PAGE_BYTES};
 use crate::advice::unless_refused;
 use crate::args::{Choice, Command, Parsed, JSON, MAGIC};
 use crate::failure::Failure;
-use crate::input::{verdict_fields, Pages, Read};
+use crate::input::{head_fields, Pages, Read};
 use crate::json::Json;
 use crate::output::Output;
 use crate::show;
@@ -96,7 +96,7 @@ fn run(parsed: &Parsed, output: &mut Output) -> Result<(), Failure> {
         .filter(|row| only.is_none_or(|page| page == row.page as u64))
         .take(limit);
     if parsed.flag("--json") {
-        let mut fields = verdict_fields(parsed, verdict);
+        let mut fields = head_fields(parsed, "done", verdict);
         fields.extend(pages.fields());
         fields.push((
             "rows",

@@ -23,10 +23,9 @@ fn a_file_that_cannot_be_written_whole() {
     let before = sandbox.contents();
     let limited = |words: &str| sandbox.shell(&format!("{TRAPPED} {LIMITED} \"$LQ\" {words}"));
     for words in WRITING {
-        for json in ["", " --json"] {
-            limited(&format!("{words}{json}")).fails(&["cannot write ", "File too large"]);
-            assert!(sandbox.contents() == before, "{words}");
-        }
+        limited(words).fails(&["cannot write ", "File too large"]);
+        limited(&format!("{words} --json")).fails_as_json("File too large");
+        assert!(sandbox.contents() == before, "{words}");
     }
     limited("demo --dir new").fails(&["cannot write new/outage.pages: File too large"]);
     limited("replay 7 --dir .").fails(&["cannot write ./7.pages: File too large"]);
@@ -207,9 +206,12 @@ fn little_stack_and_little_memory() {
                 Some(0) => done += 1,
                 Some(2) => {
                     failed += 1;
+                    let told = match words.contains("--json") && !ended.out.is_empty() {
+                        true => ended.json().text("message").to_string(),
+                        false => ended.err.clone(),
+                    };
                     assert!(
-                        ended.err.contains("out of memory")
-                            || ended.err.contains("no room for a stack"),
+                        told.contains("out of memory") || told.contains("no room for a stack"),
                         "{mib} {ended:#?}"
                     );
                     assert!(sandbox.contents() == before);
