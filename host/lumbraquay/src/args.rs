@@ -1,10 +1,12 @@
 //! The words of the command line, by what a command takes. Help texts come from the same lists.
 
+use std::cell::Cell;
 use std::collections::BTreeMap;
 use std::ffi::{OsStr, OsString};
 use std::path::Path;
 
 use crate::failure::Failure;
+use crate::json::Json;
 use crate::output::Output;
 
 pub struct Command {
@@ -58,6 +60,12 @@ pub const FLOOR: Choice = Choice::value(
     "all up to this LSN is known to be flushed; 0 where not given",
 );
 
+pub const LOG_UNTIL: Choice = Choice::value(
+    "--log-until",
+    "OFFSET",
+    "take only the log before this byte, as if the power had failed there",
+);
+
 impl Command {
     pub fn usage(&self) -> String {
         let mut text = format!("lumbraquay {}", self.name);
@@ -87,7 +95,7 @@ impl Command {
             .iter()
             .map(|(name, about)| (name.to_string(), *about));
         for (name, about) in takes.chain(choices) {
-            text += &format!("  {name:<16} {about}\n");
+            text += &format!("  {name:<18} {about}\n");
         }
         if !self.more.is_empty() {
             text += &format!("\n{}\n", self.more);
@@ -102,6 +110,8 @@ pub struct Parsed {
     given: Vec<OsString>,
     /// Each option that was given, with its value; a flag has an empty one.
     chosen: BTreeMap<&'static str, OsString>,
+    /// The magic of the pages, once it is known.
+    pub magic: Cell<Option<u64>>,
 }
 
 impl Parsed {
@@ -111,6 +121,7 @@ impl Parsed {
             command,
             given: Vec::new(),
             chosen: BTreeMap::new(),
+            magic: Cell::new(None),
         };
         let mut words = words.iter();
         let mut only_names = false;
@@ -179,6 +190,26 @@ impl Parsed {
     /// A usage failure of this command.
     pub fn wrong(&self, what: String) -> Failure {
         Failure::Usage(format!("{what}\nuse: {}", self.command.usage()))
+    }
+
+    /// The fields of the files that were given, as far as their names are known, and of the magic.
+    pub fn fields(&self) -> Vec<(&'static str, Json)> {
+        let mut fields = Vec::new();
+        for ((name, _), given) in self.command.takes.iter().zip(&self.given) {
+            let given = Json::text(given.to_string_lossy());
+            match *name {
+                "PAGES" => fields.push(("pages_file", given)),
+                "LOG" => fields.push(("log_file", given)),
+                _ => (),
+            }
+        }
+        let known = self
+            .magic
+            .get()
+            .or(self.chosen_number("--magic").ok().flatten());
+        let magic = known.map(|magic| Json::text(format_args!("{magic:#x}")));
+        fields.push(("magic", magic.unwrap_or(Json::Null)));
+        fields
     }
 
     pub fn name(&self) -> &'static str {

@@ -5,6 +5,7 @@ use std::io::{ErrorKind, Write};
 use std::path::Path;
 
 use crate::done;
+use crate::plain::plain;
 
 pub enum Failure {
     /// The words on the command line are wrong.
@@ -73,5 +74,6 @@ impl Failure {
 
 /// Prints a line on standard error. With that closed too, the exit status has to say it all.
 pub fn note(text: impl Display) {
-    let _ = writeln!(std::io::stderr(), "lumbraquay: {text}");
+    let text = format!("lumbraquay: {text}\n");
+    let _ = std::io::stderr().write_all(plain(&text).as_bytes());
 }

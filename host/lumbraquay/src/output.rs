@@ -1,9 +1,10 @@
-//! Standard output, with every failed write told.
+//! Standard output, with every failed write told, and no letter that a terminal would take for an order.
 
 use std::fmt::Display;
 use std::io::{BufWriter, Stdout, Write};
 
 use crate::failure::Failure;
+use crate::plain::plain;
 
 pub struct Output {
     to: BufWriter<Stdout>,
@@ -17,11 +18,12 @@ impl Output {
     }
 
     pub fn text(&mut self, text: &str) -> Result<(), Failure> {
+        let text = plain(text);
         self.to.write_all(text.as_bytes()).map_err(Failure::Output)
     }
 
     pub fn line(&mut self, line: impl Display) -> Result<(), Failure> {
-        writeln!(self.to, "{line}").map_err(Failure::Output)
+        self.text(&format!("{line}\n"))
     }
 
     pub fn flush(&mut self) -> Result<(), Failure> {

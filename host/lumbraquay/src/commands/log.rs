@@ -6,10 +6,11 @@ use library::{Step, Verdict, LOG_HEAD_BYTES, STEP_DAMAGED, STEP_END, STEP_ENTRY,
 use crate::advice::{refusal_fields, text, unless_refused};
 use crate::args::{Choice, Command, Parsed, JSON};
 use crate::failure::Failure;
-use crate::input::{verdict_fields, Log, Read};
+use crate::input::{head_fields, Log, Read};
 use crate::json::Json;
 use crate::output::Output;
 use crate::show;
+use crate::walk;
 
 pub const COMMAND: Command = Command {
     name: "log",
@@ -39,9 +40,15 @@ fn run(parsed: &Parsed, output: &mut Output) -> Result<(), Failure> {
     let backward = parsed.flag("--backward");
     let from = parsed.chosen_number("--from")?;
     let limit = parsed.chosen_number("--limit")?.unwrap_or(u64::MAX);
-    let log = Log::read(parsed.path(0))?;
+    let log = Log::read(parsed, 0)?;
     let opened = library::log_open(&log.bytes, backward);
     unless_refused(parsed, output, opened, Read::log(&log))?;
+    if let Some(inside) = from.and_then(|from| around(&log, from)) {
+        return Err(parsed.wrong(format!(
+            "--from is inside the entry at offset {}, which ends at {}",
+            inside.offset, inside.next
+        )));
+    }
     let start = Start {
         place: from.unwrap_or(opened.place),
         walked: from.is_none(),
@@ -52,6 +59,13 @@ fn run(parsed: &Parsed, output: &mut Output) -> Result<(), Failure> {
         true => list_json(parsed, output, &log, &start),
         false => list_text(output, &log, &start),
     }
+}
+
+/// The entry that a place is inside of.
+fn around(log: &Log, place: u64) -> Option<Step> {
+    walk::entries(&log.bytes)
+        .take_while(|step| step.offset < place)
+        .find(|step| step.next > place)
 }
 
 /// Calls for every entry; gives the place where the listing stopped.
@@ -121,11 +135,12 @@ fn list_text(output: &mut Output, log: &Log, start: &Start) -> Result<(), Failur
     let mut entries = 0;
     let stopped = each_entry(log, start, |step| {
         entries += 1;
-        let change = match show::target(&log.bytes, step) {
+        let (before, after) = walk::tuples(&log.bytes, step);
+        let change = match walk::target(&log.bytes, step) {
             Some((page, slot)) => format!(
                 "page {page} slot {slot}, {} bytes before, {} after",
-                show::tuple_bytes(step, step.old_len),
-                show::tuple_bytes(step, step.new_len)
+                before.len(),
+                after.len()
             ),
             None => String::new(),
         };
@@ -173,7 +188,12 @@ fn list_json(
     })?;
     let (end, kind) = end_of(log, start, stopped);
     let verdict = damage(&end).unwrap_or_default();
-    let mut fields = verdict_fields(parsed, verdict);
+    let result = if verdict.number == 0 {
+        "done"
+    } else {
+        "refused"
+    };
+    let mut fields = head_fields(parsed, result, verdict);
     if verdict.number != 0 {
         fields.extend(refusal_fields(verdict, Read::log(log)));
     }
@@ -193,7 +213,7 @@ fn list_json(
 }
 
 fn entry_fields(log: &Log, step: &Step) -> Vec<(&'static str, Json)> {
-    let (page, slot) = match show::target(&log.bytes, step) {
+    let (page, slot) = match walk::target(&log.bytes, step) {
         Some((page, slot)) => (page.into(), u64::from(slot).into()),
         None => (Json::Null, Json::Null),
     };

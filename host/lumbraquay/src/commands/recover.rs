@@ -5,11 +5,11 @@ use std::path::{Path, PathBuf};
 use library::{Answer, Record, LOG_HEAD_BYTES, RECORD_NUMBERS, SHORTEST_ENTRY_BYTES};
 
 use crate::advice::unless_refused;
-use crate::args::{Choice, Command, Parsed, FLOOR, JSON, MAGIC};
+use crate::args::{Choice, Command, Parsed, FLOOR, JSON, LOG_UNTIL, MAGIC};
 use crate::failure::Failure;
 use crate::files;
 use crate::held::Held;
-use crate::input::{verdict_fields, Log, Pages, Read};
+use crate::input::{head_fields, Log, Pages, Read};
 use crate::json::Json;
 use crate::memory;
 use crate::output::Output;
@@ -26,6 +26,7 @@ pub const COMMAND: Command = Command {
         Choice::flag("--dry-run", "write nothing"),
         MAGIC,
         FLOOR,
+        LOG_UNTIL,
         Choice::value("--records", "N", "refuse a log of more transactions than this"),
         Choice::flag("--transactions", "list what became of each transaction"),
         JSON,
@@ -55,7 +56,7 @@ enum Written {
 fn run(parsed: &Parsed, output: &mut Output) -> Result<(), Failure> {
     let report = recover(parsed, output)?;
     if parsed.flag("--json") {
-        let mut fields = verdict_fields(parsed, report.answer.verdict());
+        let mut fields = head_fields(parsed, report.result(), report.answer.verdict());
         fields.extend(report.fields());
         return output.line(Json::Object(fields));
     }
@@ -78,7 +79,7 @@ pub fn recover(parsed: &Parsed, output: &mut Output) -> Result<Report, Failure> 
         Some(held) => Pages::read_held(parsed, held)?,
         None => Pages::read(parsed)?,
     };
-    let log = Log::read(parsed.path(1))?;
+    let log = Log::read(parsed, 1)?;
     let target = target(parsed, held)?;
 
     let mut new = memory::room(old.bytes.len())?;
@@ -87,7 +88,12 @@ pub fn recover(parsed: &Parsed, output: &mut Output) -> Result<Report, Failure> 
     let mut table = memory::room(numbers)?;
     table.resize(numbers, 0);
     let answer = library::recover(old.magic, floor, &mut new, &log.bytes, &mut table);
-    unless_refused(parsed, output, answer.verdict(), Read::both(&old, &log))?;
+    unless_refused(
+        parsed,
+        output,
+        answer.verdict(),
+        Read::both(&old, &log, floor),
+    )?;
     let transactions = answer.committed + answer.rolled_back + answer.unended;
     let mut records = memory::room(transactions as usize)?;
     records.extend(library::records(&table).take(transactions as usize));
@@ -216,6 +222,15 @@ impl Report {
             }
         }
         output.line(self.written())
+    }
+
+    /// What became of it, in a word.
+    fn result(&self) -> &'static str {
+        match &self.written {
+            Written::New(_) | Written::Replaced { .. } => "done",
+            Written::Unchanged => "unchanged",
+            Written::Nothing => "dry-run",
+        }
     }
 
     fn written(&self) -> String {

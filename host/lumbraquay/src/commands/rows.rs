@@ -3,12 +3,13 @@
 //! The library's own listing checks all pages at every step, so a walk over a large file would take hours. Here it checks
 //! them once, and the slots of good pages are read as they stand; the tests compare that with the library's walk.
 
-use library::PAGE_BYTES;
+use library::refusal::NO_SUCH_PAGE;
+use library::{Verdict, PAGE_BYTES};
 
 use crate::advice::unless_refused;
 use crate::args::{Choice, Command, Parsed, JSON, MAGIC};
 use crate::failure::Failure;
-use crate::input::{verdict_fields, Pages, Read};
+use crate::input::{head_fields, Pages, Read};
 use crate::json::Json;
 use crate::output::Output;
 use crate::show;
@@ -83,12 +84,19 @@ fn run(parsed: &Parsed, output: &mut Output) -> Result<(), Failure> {
     let pages = Pages::read(parsed)?;
     let verdict = library::verify(pages.magic, &pages.bytes);
     unless_refused(parsed, output, verdict, Read::pages(&pages))?;
+    if only.is_some_and(|page| page >= pages.count() as u64) {
+        let beyond = Verdict {
+            number: NO_SUCH_PAGE,
+            place: 0,
+        };
+        unless_refused(parsed, output, beyond, Read::pages(&pages))?;
+    }
 
     let rows = visible(&pages.bytes)
         .filter(|row| only.is_none_or(|page| page == row.page as u64))
         .take(limit);
     if parsed.flag("--json") {
-        let mut fields = verdict_fields(parsed, verdict);
+        let mut fields = head_fields(parsed, "done", verdict);
         fields.extend(pages.fields());
         fields.push((
             "rows",

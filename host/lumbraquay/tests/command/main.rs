@@ -4,6 +4,7 @@
 mod demo;
 mod disk;
 mod documents;
+mod ends;
 mod inputs;
 mod json;
 mod kills;

@@ -132,6 +132,20 @@ impl Done {
         done.tells(texts)
     }
 
+    /// The same as one JSON object, which is given back.
+    #[track_caller]
+    pub fn fails_as_json(self, text: &str) -> Value {
+        let done = self.ends(2);
+        assert_eq!(done.err, "");
+        let object = done.json();
+        assert_eq!(object.text("result"), "error");
+        assert!(
+            object.text("message").contains(text),
+            "no '{text}' in {object:?}"
+        );
+        object
+    }
+
     /// Refused, with each of these on standard error.
     #[track_caller]
     pub fn refuses(self, texts: &[&str]) -> Done {
