@@ -56,9 +56,7 @@ fn eights(s: &[u8]) -> u32 {
     let mut words = s.chunks_exact(8);
     let c = (&mut words).fold(!0u32, |c, w| {
         let x = c as u64 ^ u64::from_le_bytes(w.try_into().unwrap());
-        (0..8).fold(0, |r, j| {
-            r ^ TABLES[7 - j][((x >> (8 * j)) & 255) as usize]
-        })
+        (0..8).fold(0, |r, j| r ^ TABLES[7 - j][((x >> (8 * j)) & 255) as usize])
     });
     !words.remainder().iter().fold(c, |c, &b| byte(c, b))
 }
@@ -118,9 +116,7 @@ fn main() {
         "{:>10}  {:>10}  {:>12}  {:>15}  {:>15}",
         "piece", "one table", "eight tables", "proved", "machine's crc32"
     );
-    for piece in [
-        43, 64, 120, 200, 400, 639, 640, 1_024, 4_096, 16_320, size,
-    ] {
+    for piece in [43, 64, 120, 200, 400, 639, 640, 1_024, 4_096, 16_320, size] {
         let expected = pieces(&data, piece, machine);
         let found = proved_pieces(&data, piece);
         assert_eq!(
