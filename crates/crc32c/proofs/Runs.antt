@@ -2,16 +2,16 @@
 -- Assumes nothing.
 use mathlib.Core.Path.{_≡_, refl, sym, ap, ap₂, _∙_}
 use mathlib.Core.List.{List, [], _∷_, _++_, append-nil}
-use Prim.Native.Nat.{ℕ, zero, suc, _+_, _*_, _-_, _/_, _^_, _≤_, _<_}
+use Prim.Native.Nat.{ℕ, zero, suc, _+_, _*_, _-_, _≤_, _<_}
 use native.Mathlib.Nat.{zero-add, suc-add}
 use native.Mathlib.Numerals.{add-one}
 use native.Mathlib.Omega.{arith}
-use lib.Bits.{bitXor, xor-comm, xor-zero-r, xor-shifted, xor-lt}
+use lib.Bits.{bitXor, xor-comm, xor-zero-r, xor-shifted}
 use lib.ListN.{length, getD, take, drop, take-append-drop, length-drop, drop-of-length-le}
-use lib.Seq.{drop-cons, length-take-le, drop-drop, take-all, take-nil}
+use lib.Seq.{drop-cons, length-take-le, drop-drop, take-nil}
 use Rattle.endian.specs.Numbers.{Bytes, numberOf, numberAt}
 use Rattle.endian.proofs.Bytes.{bytes-take, bytes-drop}
-use Rattle.crc32c.specs.Crc.{poly, shift, shifts, fed, start, finished, crc32c}
+use Rattle.crc32c.specs.Crc.{shift, shifts, fed, start, finished, crc32c}
 use Rattle.crc32c.proofs.Xor.{xor-assoc}
 use Rattle.crc32c.proofs.Shifts.{shifts-xor, shifts-out, shifts-add}
 use Rattle.crc32c.proofs.Over.{fed-from}
@@ -138,7 +138,3 @@ step-16 s i c x y₁ y₂ y₃ h e₃ e₂ e₁ ex =
     (join s i (i + 4) 4 12 0 12 c x (bitXor (bitXor y₃ y₂) y₁) refl refl (omega arith)
     (join s (i + 4) (i + 8) 4 8 0 8 0 y₁ (bitXor y₃ y₂) (omega arith) refl (omega arith)
     (join s (i + 8) (i + 12) 4 4 0 4 0 y₂ y₃ (omega arith) refl (omega arith) e₃ e₂) e₁) ex)
-
--- `&s[i..]` is the rest
-pub rest : (s : List ℕ) (i c : ℕ) → fed c (take (length s - i) (drop i s)) ≡ fed c (drop i s)
-rest s i c = ap (fed c) (take-all (length s - i) (drop i s) (simp length-drop (omega arith)))

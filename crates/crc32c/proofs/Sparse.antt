@@ -14,11 +14,11 @@ use Rattle.endian.proofs.Bytes.{bytes-drop, bytes-take, bytes-of, bytes-append,
 use Rattle.endian.proofs.Numbers.{number-back, length-bytesOf}
 use Rattle.endian.proofs.Places.{part-take}
 use Rattle.crc32c.specs.Crc.{shifts, fed}
-use Rattle.crc32c.specs.Sparse.{over, pull, residue, carried, Filled, Room}
+use Rattle.crc32c.specs.Sparse.{historyBytes, chunkBytes, bufferBytes, endingBytes, lastBytes, over, pull, residue, carried, Filled, Room}
 use Rattle.crc32c.proofs.Xor.{xor-assoc}
 use Rattle.crc32c.proofs.Shifts.{shifts-xor, shifts-zero, shifts-add}
 use Rattle.crc32c.proofs.Range.{fed-lt}
-use Rattle.crc32c.proofs.Runs.{run, word, word-number}
+use Rattle.crc32c.proofs.Runs.{run, word, word-number, part-length}
 use Rattle.crc32c.proofs.Over.{over-same, over-xor, over-add, over-fed, over-from, over-late, over-end}
 use Rattle.crc32c.proofs.Cancel.{pull-same, pull-xor, pull-shifts, pull-at, Top, six-none, top-1, top-2}
 use Rattle.crc32c.proofs.Stores.{Below, Above}
@@ -235,30 +235,30 @@ filled-chunk k n h s p r hk top lh lp ls lr bp f =
         let b : i < 209 * k = omega arith in
         getD-take (209 * k) p i 0 b ∙ f .front i b ∙ sym (getD-take (209 * k) h i 0 b))
 
-pub chunked : (h s p r : List ℕ) → Room 2402 h → Room 2402 p → length s ≤ 1984 → 418 ≤ length r
+pub chunked : (h s p r : List ℕ) → Room bufferBytes h → Room bufferBytes p → length s ≤ chunkBytes → historyBytes ≤ length r
     → Filled 2 (length s) h s p → carried (drop (length s) p) r ≡ carried h (s ++ r)
 unfolding carried
 chunked h s p r rh rp ls lr f =
     filled-chunk 2 (length s) h s p r (omega arith) top-2 (omega (arith, rh .size)) (omega (arith, rp .size)) (omega arith) lr (rp .bytes) f
-    ∙ ap (λ (l : List ℕ). residue 2 (take 418 h) (l ++ r)) (take-length s)
+    ∙ ap (λ (l : List ℕ). residue 2 (take historyBytes h) (l ++ r)) (take-length s)
 
 -- the last 418 bytes moved to the front
-pub carried-moved : (o p r : List ℕ) (n : ℕ) → take 418 o ≡ take 418 (drop n p) → carried o r ≡ carried (drop n p) r
+pub carried-moved : (o p r : List ℕ) (n : ℕ) → take historyBytes o ≡ take historyBytes (drop n p) → carried o r ≡ carried (drop n p) r
 unfolding carried
 carried-moved o p r n e = ap (λ (l : List ℕ). residue 2 l r) e
 
-pub mixed : (p s z o : List ℕ) (n : ℕ) → Room 2402 p → n ≤ 1984 → length s ≡ 448 → length o ≡ 448 → Below z (λ m. getD p (m + n) 0) 418 → Above z (λ m. 0) 418
-    → Below o (λ m. bitXor (getD s m 0) (pull 2 (λ i. getD z i 0) m)) 448 → fed 0 o ≡ carried (drop n p) s
+pub mixed : (p s z o : List ℕ) (n : ℕ) → Room bufferBytes p → n ≤ chunkBytes → length s ≡ endingBytes → length o ≡ endingBytes → Below z (λ m. getD p (m + n) 0) historyBytes → Above z (λ m. 0) historyBytes
+    → Below o (λ m. bitXor (getD s m 0) (pull 2 (λ i. getD z i 0) m)) endingBytes → fed 0 o ≡ carried (drop n p) s
 unfolding carried residue
 mixed p s z o n rp hn ls lo below above each =
-    let l : 418 ≤ length (drop n p) = simp length-drop (omega (arith, rp .size)) in
-    let E : ℕ → ℕ = λ j. bitXor (getD s j 0) (pull 2 (λ i. getD (take 418 (drop n p)) i 0) j) in
+    let l : historyBytes ≤ length (drop n p) = simp length-drop (omega (arith, rp .size)) in
+    let E : ℕ → ℕ = λ j. bitXor (getD s j 0) (pull 2 (λ i. getD (take historyBytes (drop n p)) i 0) j) in
     sym (over-fed o 0)
     ∙ over-same (length o) 0 (λ j. getD o j 0) E
     (λ j lj.
     each j (omega arith)
     ∙ ap (bitXor (getD s j 0))
-    (pull-same 2 (λ i. getD z i 0) (λ i. getD (take 418 (drop n p)) i 0) j (front-at (drop n p) z 418 l (λ m b. below m b ∙ there m) above)))
+    (pull-same 2 (λ i. getD z i 0) (λ i. getD (take historyBytes (drop n p)) i 0) j (front-at (drop n p) z historyBytes l (λ m b. below m b ∙ there m) above)))
     ∙ ap (over 0 E) (lo ∙ sym ls)
   where
     there : (m : ℕ) → getD p (m + n) 0 ≡ getD (drop n p) m 0
@@ -272,62 +272,62 @@ none k h r e =
     (λ j l. ap (bitXor (getD r j 0)) (pull-none k (λ i. getD h i 0) j (λ i. e (j + i))) ∙ xor-zero-r (getD r j 0))
     ∙ over-fed r 0
 
-pub nearer : (s p o : List ℕ) → Room 592 p → length s ≡ 448 → length o ≡ 224 → Filled 1 224 (replicate 592 0) s p → Above p (λ m. 0) 433
-    → Below o (λ m. bitXor (getD s (m + 224) 0) (bitXor (getD p (m + 368) 0) (bitXor (getD p (m + 278) 0) (bitXor (getD p (m + 263) 0) (bitXor (getD p (m + 238) 0) (getD p (m + 224) 0)))))) 224
+pub halved : (s p o : List ℕ) → Room 592 p → length s ≡ endingBytes → length o ≡ lastBytes → Filled 1 lastBytes (replicate 592 0) s p → Above p (λ m. 0) 433
+    → Below o (λ m. bitXor (getD s (m + lastBytes) 0) (bitXor (getD p (m + 368) 0) (bitXor (getD p (m + 278) 0) (bitXor (getD p (m + 263) 0) (bitXor (getD p (m + 238) 0) (getD p (m + lastBytes) 0)))))) lastBytes
     → fed 0 o ≡ fed 0 s
 unfolding residue pull
-nearer s p o rp ls lo f above each =
+halved s p o rp ls lo f above each =
     sym (over-fed o 0) ∙ over-same (length o) 0 (λ j. getD o j 0) E (λ j l. at j (omega arith))
     ∙ ap (over 0 E) (lo ∙ sym l2)
-    ∙ filled-chunk 1 224 (replicate 592 0) s p (drop 224 s) (omega arith) top-1 (omega arith) (omega (arith, rp .size)) (omega arith) (omega (arith, l2)) (rp .bytes) f
-    ∙ ap (residue 1 (take 209 (replicate 592 0))) (take-append-drop 224 s) ∙ none 1 (take 209 (replicate 592 0)) s (zeros-at 209)
+    ∙ filled-chunk 1 lastBytes (replicate 592 0) s p (drop lastBytes s) (omega arith) top-1 (omega arith) (omega (arith, rp .size)) (omega arith) (omega (arith, l2)) (rp .bytes) f
+    ∙ ap (residue 1 (take 209 (replicate 592 0))) (take-append-drop lastBytes s) ∙ none 1 (take 209 (replicate 592 0)) s (zeros-at 209)
   where
     H : ℕ → ℕ
-    H i = getD (take 209 (drop 224 p)) i 0
+    H i = getD (take 209 (drop lastBytes p)) i 0
 
     E : ℕ → ℕ
-    E j = bitXor (getD (drop 224 s) j 0) (pull 1 H j)
+    E j = bitXor (getD (drop lastBytes s) j 0) (pull 1 H j)
 
-    l2 : length (drop 224 s) ≡ 224
+    l2 : length (drop lastBytes s) ≡ lastBytes
     l2 = simp length-drop (omega arith)
 
-    go : (j a b : ℕ) → j + (224 + a) ≡ b → getD p b 0 ≡ H (j + a)
+    go : (j a b : ℕ) → j + (lastBytes + a) ≡ b → getD p b 0 ≡ H (j + a)
     go j a b e =
-        let e1 : b ≡ 224 + (j + a) = omega arith in
-        ap (λ (m : ℕ). getD p m 0) e1 ∙ sym (getD-drop 224 p (j + a) 0)
-        ∙ front-at (drop 224 p) (drop 224 p) 209 (simp length-drop (omega (arith, rp .size))) (λ m l. refl)
-        (λ m l. getD-drop 224 p m 0 ∙ above (224 + m) (omega arith)) (j + a)
+        let e1 : b ≡ lastBytes + (j + a) = omega arith in
+        ap (λ (m : ℕ). getD p m 0) e1 ∙ sym (getD-drop lastBytes p (j + a) 0)
+        ∙ front-at (drop lastBytes p) (drop lastBytes p) 209 (simp length-drop (omega (arith, rp .size))) (λ m l. refl)
+        (λ m l. getD-drop lastBytes p m 0 ∙ above (lastBytes + m) (omega arith)) (j + a)
 
-    at : (j : ℕ) → j < 224 → getD o j 0 ≡ E j
+    at : (j : ℕ) → j < lastBytes → getD o j 0 ≡ E j
     at j b =
-        let e0 : j + 224 ≡ 224 + j = omega arith in
+        let e0 : j + lastBytes ≡ lastBytes + j = omega arith in
         each j b
-        ∙ ap₂ bitXor (ap (λ (m : ℕ). getD s m 0) e0 ∙ sym (getD-drop 224 s j 0))
+        ∙ ap₂ bitXor (ap (λ (m : ℕ). getD s m 0) e0 ∙ sym (getD-drop lastBytes s j 0))
         (ap₂ bitXor (go j 144 (j + 368) (omega arith))
         (ap₂ bitXor (go j 54 (j + 278) (omega arith))
         (ap₂ bitXor (go j 39 (j + 263) (omega arith))
-        (ap₂ bitXor (go j 14 (j + 238) (omega arith)) (go j 0 (j + 224) (omega arith) ∙ ap H (add-zero j))))))
+        (ap₂ bitXor (go j 14 (j + 238) (omega arith)) (go j 0 (j + lastBytes) (omega arith) ∙ ap H (add-zero j))))))
 
 -- ---- the start: the register stands in the first four bytes of the history
 
 abbrev begun : ℕ → List ℕ
-begun c = paste (replicate 2402 0) 0 (bytesOf 4 c) 4
+begun c = paste (replicate bufferBytes 0) 0 (bytesOf 4 c) 4
 
 begun-is : (c : ℕ) → begun c ≡ bytesOf 4 c ++ replicate 2398 0
 unfolding bytesOf
 begun-is c = refl
 
-pub begun-room : (c : ℕ) → Room 2402 (begun c)
+pub begun-room : (c : ℕ) → Room bufferBytes (begun c)
 begun-room c =
-    subst (Room 2402) (sym (begun-is c))
+    subst (Room bufferBytes) (sym (begun-is c))
     (record {
       size = length-append (bytesOf 4 c) (replicate 2398 0) ∙ ap₂ (λ (m n : ℕ). m + n) (length-bytesOf 4 c) (length-replicate {A = ℕ} 2398 0);
       bytes = bytes-append (bytes-of 4 c) (bytes-zeros 2398);
     })
 
-begun-at : (c i : ℕ) → getD (take 418 (begun c)) i 0 ≡ getD (bytesOf 4 c) i 0
+begun-at : (c i : ℕ) → getD (take historyBytes (begun c)) i 0 ≡ getD (bytesOf 4 c) i 0
 begun-at c i =
-    sym (front-at (begun c) (bytesOf 4 c) 418 (omega (arith, begun-room c .size))
+    sym (front-at (begun c) (bytesOf 4 c) historyBytes (omega (arith, begun-room c .size))
     (λ m b. sym (ap (λ (l : List ℕ). getD l m 0) (begun-is c) ∙ low m)) (λ m b. past-end (bytesOf 4 c) m (omega (arith, length-bytesOf 4 c))) i)
   where
     low : (m : ℕ) → getD (bytesOf 4 c ++ replicate 2398 0) m 0 ≡ getD (bytesOf 4 c) m 0
@@ -363,10 +363,10 @@ started c s h l =
     ∙ sym (shifts-add 32 (8 * z) c) ∙ ap (λ (n : ℕ). shifts n c) (sym e2))
     ∙ sym (over-from (length s) c S) ∙ over-fed s c
   where
-    late : (m j : ℕ) → 4 ≤ m → getD (take 418 (begun c)) (j + m) 0 ≡ 0
+    late : (m j : ℕ) → 4 ≤ m → getD (take historyBytes (begun c)) (j + m) 0 ≡ 0
     late m j b = begun-at c (j + m) ∙ past-end (bytesOf 4 c) (j + m) (omega (arith, length-bytesOf 4 c))
 
-    at : (j : ℕ) → bitXor (getD s j 0) (pull 2 (λ i. getD (take 418 (begun c)) i 0) j) ≡ bitXor (getD (bytesOf 4 c) j 0) (getD s j 0)
+    at : (j : ℕ) → bitXor (getD s j 0) (pull 2 (λ i. getD (take historyBytes (begun c)) i 0) j) ≡ bitXor (getD (bytesOf 4 c) j 0) (getD s j 0)
     at j =
         ap (bitXor (getD s j 0))
         (ap₂ bitXor (late 288 j (omega arith))
@@ -376,23 +376,20 @@ started c s h l =
 
 -- ---- a turn, and the end
 
-pub part-size : (s : List ℕ) (i e : ℕ) → i ≤ e → e ≤ length s → length (take (e - i) (drop i s)) ≡ e - i
-part-size s i e h l = length-take-le (e - i) (drop i s) (simp length-drop (omega arith))
-
 part : (s : List ℕ) (i e : ℕ) → i ≤ e → take (e - i) (drop i s) ++ drop e s ≡ drop i s
 part s i e h =
     let z : i + (e - i) ≡ e = omega arith in
     ap (λ (m : ℕ). take (e - i) (drop i s) ++ drop m s) (sym z)
     ∙ ap (λ (l : List ℕ). take (e - i) (drop i s) ++ l) (sym (drop-drop (e - i) i s)) ∙ take-append-drop (e - i) (drop i s)
 
-pub stepped : (p q s : List ℕ) (i e x : ℕ) → i ≤ e → e + 418 ≤ length s
-    → ((r : List ℕ) → 418 ≤ length r → carried q r ≡ carried p (take (e - i) (drop i s) ++ r)) → carried p (drop i s) ≡ x → carried q (drop e s) ≡ x
+pub stepped : (p q s : List ℕ) (i e x : ℕ) → i ≤ e → e + historyBytes ≤ length s
+    → ((r : List ℕ) → historyBytes ≤ length r → carried q r ≡ carried p (take (e - i) (drop i s) ++ r)) → carried p (drop i s) ≡ x → carried q (drop e s) ≡ x
 stepped p q s i e x h l f g = f (drop e s) (simp length-drop (omega arith)) ∙ ap (carried p) (part s i e h) ∙ g
 
-pub ended : (p q s : List ℕ) (i e r x : ℕ) → i ≤ e → e + 448 ≤ length s → e - i ≤ 1984 → Room 2402 p → Room 2402 q
+pub ended : (p q s : List ℕ) (i e r x : ℕ) → i ≤ e → e + endingBytes ≤ length s → e - i ≤ chunkBytes → Room bufferBytes p → Room bufferBytes q
     → Filled 2 (length (take (e - i) (drop i s))) p (take (e - i) (drop i s)) q → r ≡ carried (drop (e - i) q) (take (length s - e) (drop e s)) → carried p (drop i s) ≡ x → r ≡ x
 ended p q s i e r x h l n rp rq f er g =
     let a = take (e - i) (drop i s) in
-    let la : length a ≡ e - i = part-size s i e h (omega arith) in
+    let la : length a ≡ e - i = part-length s i (e - i) (omega arith) in
     er ∙ ap₂ (λ (m : ℕ) (b : List ℕ). carried (drop m q) b) (sym la) (take-all (length s - e) (drop e s) (simp length-drop (omega arith)))
     ∙ chunked p a q (drop e s) rp rq (omega arith) (simp length-drop (omega arith)) f ∙ ap (carried p) (part s i e h) ∙ g

@@ -10,7 +10,7 @@ use lib.ListN.{length, getD, set, take, drop, replicate, length-drop, length-set
 use lib.Seq.{getD-set-same, getD-set-other, getD-take, getD-drop, length-take-le, ext-getD}
 use Rattle.endian.specs.Numbers.{Bytes}
 use Rattle.endian.proofs.Bytes.{bytes-zeros, bytes-cons}
-use Rattle.crc32c.specs.Sparse.{pull, Filled, Room}
+use Rattle.crc32c.specs.Sparse.{historyBytes, chunkBytes, bufferBytes, pull, Filled, Room}
 
 -- the first k elements are those of g; those from k on are
 abbrev pub Below : List ℕ → (ℕ → ℕ) → ℕ → Type 0
@@ -73,19 +73,19 @@ filled-more k j v h s p hk hl e f = record { front = λ i l. front i l; each = �
             ∙ ap (λ (n : ℕ). bitXor (getD s n 0) (pull k (λ i. getD (set p (j + 209 * k) v) i 0) n)) (sym z)
 
 -- what a loop moved to the front
-pub moved : (h p : List ℕ) → Room 2402 h → Room 2402 p → Below p (λ m. getD h (m + 1984) 0) 418 → take 418 p ≡ take 418 (drop 1984 h)
+pub moved : (h p : List ℕ) → Room bufferBytes h → Room bufferBytes p → Below p (λ m. getD h (m + chunkBytes) 0) historyBytes → take historyBytes p ≡ take historyBytes (drop chunkBytes h)
 moved h p rh rp below =
-    let lh : length h ≡ 2402 = rh .size in
-    let lp : length p ≡ 2402 = rp .size in
-    let ep : length (take 418 p) ≡ 418 = length-take-le 418 p (omega arith) in
-    let eh : length (take 418 (drop 1984 h)) ≡ 418 = length-take-le 418 (drop 1984 h) (simp length-drop (omega arith)) in
-    ext-getD 0 (take 418 p) (take 418 (drop 1984 h)) (omega arith) (λ i l. at i (omega arith))
+    let lh : length h ≡ bufferBytes = rh .size in
+    let lp : length p ≡ bufferBytes = rp .size in
+    let ep : length (take historyBytes p) ≡ historyBytes = length-take-le historyBytes p (omega arith) in
+    let eh : length (take historyBytes (drop chunkBytes h)) ≡ historyBytes = length-take-le historyBytes (drop chunkBytes h) (simp length-drop (omega arith)) in
+    ext-getD 0 (take historyBytes p) (take historyBytes (drop chunkBytes h)) (omega arith) (λ i l. at i (omega arith))
   where
-    at : (i : ℕ) → i < 418 → getD (take 418 p) i 0 ≡ getD (take 418 (drop 1984 h)) i 0
+    at : (i : ℕ) → i < historyBytes → getD (take historyBytes p) i 0 ≡ getD (take historyBytes (drop chunkBytes h)) i 0
     at i b =
-        let e : i + 1984 ≡ 1984 + i = omega arith in
-        getD-take 418 p i 0 b ∙ below i b ∙ ap (λ (m : ℕ). getD h m 0) e
-        ∙ sym (getD-take 418 (drop 1984 h) i 0 b ∙ getD-drop 1984 h i 0)
+        let e : i + chunkBytes ≡ chunkBytes + i = omega arith in
+        getD-take historyBytes p i 0 b ∙ below i b ∙ ap (λ (m : ℕ). getD h m 0) e
+        ∙ sym (getD-take historyBytes (drop chunkBytes h) i 0 b ∙ getD-drop chunkBytes h i 0)
 
 -- ---- bytes stay bytes
 

@@ -8,6 +8,22 @@ use Rattle.endian.specs.Numbers.{Bytes}
 use lib.ListN.{length, take, getD}
 use Rattle.crc32c.specs.Crc.{shifts}
 
+-- the bytes of the history, of what goes behind it at a time, of both, of an input's ending, and of what is left of that
+abbrev pub historyBytes : ℕ
+historyBytes = 418
+
+abbrev pub chunkBytes : ℕ
+chunkBytes = 1984
+
+abbrev pub bufferBytes : ℕ
+bufferBytes = 2402
+
+abbrev pub endingBytes : ℕ
+endingBytes = 448
+
+abbrev pub lastBytes : ℕ
+lastBytes = 224
+
 -- the register c after n bytes, which a function gives
 unfoldable pub over : ℕ → (ℕ → ℕ) → ℕ → ℕ
 over c f zero = c
@@ -22,9 +38,9 @@ pull k f j =
 unfoldable pub residue : ℕ → List ℕ → List ℕ → ℕ
 residue k h r = over 0 (λ j. bitXor (getD r j 0) (pull k (λ i. getD h i 0) j)) (length r)
 
--- the same over the first 418 bytes of a list
+-- the same over the history at the front of a list, at the scale 2
 unfoldable pub carried : List ℕ → List ℕ → ℕ
-carried p r = residue 2 (take 418 p) r
+carried p r = residue 2 (take historyBytes p) r
 
 -- p is the history of h, and behind it n bytes of s, each with what goes into it
 pub record Filled (k n : ℕ) (h s p : List ℕ) : Type 0 where

@@ -1,18 +1,19 @@
 use borrow.Author.Needs.{needs}
-use mathlib.Core.Path.{_≡_, refl, _∙_}
+use mathlib.Core.Path.{_≡_, _∙_}
 use Prim.Native.Nat.{_%_, _-_, _≤_}
 use native.Mathlib.Omega.{arith}
-use lib.ListN.{length, drop}
+use lib.ListN.{drop}
 use Rattle.crc32c.specs.Crc.{fed}
+use Rattle.crc32c.specs.Sparse.{lastBytes}
 use Rattle.crc32c.proofs.Runs.{step-16, at-end}
 use Rattle.crc32c.proofs.inner.last.Statement.{statement}
 use Rattle.crc32c.proofs.inner.last.Tie as tie
 
 abbrev Inv-loop : tie.InvT-loop
-Inv-loop t s c₀ i₀ c i = (i ≤ 224) × (i % 16 ≡ 0) × (fed c (drop i s) ≡ fed 0 s)
+Inv-loop t s c₀ i₀ c i = (i ≤ lastBytes) × (i % 16 ≡ 0) × (fed c (drop i s) ≡ fed 0 s)
 
 abbrev μ-loop : tie.MeasureT-loop
-μ-loop t s c₀ i₀ c i = 224 - i
+μ-loop t s c₀ i₀ c i = lastBytes - i
 
 loop-again : tie.Need-loop-again Inv-loop μ-loop
 loop-again c =
