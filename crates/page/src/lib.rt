@@ -9,6 +9,7 @@ use refusals::MAP_SHORT;
 use refusals::Verdict;
 
 mod faults;
+mod granules;
 pub mod inner;
 mod map;
 mod rows;
