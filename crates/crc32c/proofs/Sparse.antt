@@ -14,7 +14,7 @@ use Rattle.endian.proofs.Bytes.{bytes-drop, bytes-take, bytes-of, bytes-append,
 use Rattle.endian.proofs.Numbers.{number-back, length-bytesOf}
 use Rattle.endian.proofs.Places.{part-take}
 use Rattle.crc32c.specs.Crc.{shifts, fed}
-use Rattle.crc32c.specs.Sparse.{historyBytes, chunkBytes, bufferBytes, endingBytes, lastBytes, over, pull, residue, carried, Filled, Room}
+use Rattle.crc32c.specs.Sparse.{degree, e₄, e₃, e₂, e₁, historyBytes, chunkBytes, bufferBytes, endingBytes, lastBytes, over, pull, residue, carried, Filled, Room}
 use Rattle.crc32c.proofs.Xor.{xor-assoc}
 use Rattle.crc32c.proofs.Shifts.{shifts-xor, shifts-zero, shifts-add}
 use Rattle.crc32c.proofs.Range.{fed-lt}
@@ -31,15 +31,15 @@ twice : (a b : ℕ) → bitXor a (bitXor a b) ≡ b
 twice a b = sym (xor-assoc a a b) ∙ ap (λ (y : ℕ). bitXor y b) (xor-self a) ∙ xor-zero-l b
 
 -- the six places cancel, e bytes later too
-six-later : (k x e : ℕ) → Top k → x < 2 ^ 32 → bitXor (shifts (8 * (209 * k + e)) x) (pull k (λ i. shifts (8 * i) x) e) ≡ 0
+six-later : (k x e : ℕ) → Top k → x < 2 ^ 32 → bitXor (shifts (8 * (degree * k + e)) x) (pull k (λ i. shifts (8 * i) x) e) ≡ 0
 six-later k x e top h =
     let g : ℕ → ℕ = λ i. shifts (8 * i) x in
-    let e1 : 8 * (209 * k + e) ≡ 8 * (209 * k) + 8 * e = omega arith in
-    ap₂ bitXor (ap (λ (n : ℕ). shifts n x) e1 ∙ shifts-add (8 * (209 * k)) (8 * e) x)
+    let e1 : 8 * (degree * k + e) ≡ 8 * (degree * k) + 8 * e = omega arith in
+    ap₂ bitXor (ap (λ (n : ℕ). shifts n x) e1 ∙ shifts-add (8 * (degree * k)) (8 * e) x)
     (ap (pull k g) (sym (add-zero e)) ∙ sym (pull-at k e g 0)
     ∙ pull-same k (λ i. g (e + i)) (λ i. shifts (8 * e) (g i)) 0 (λ i. later i)
     ∙ pull-shifts k (8 * e) g 0)
-    ∙ sym (shifts-xor (8 * e) (shifts (8 * (209 * k)) x) (pull k g 0))
+    ∙ sym (shifts-xor (8 * e) (shifts (8 * (degree * k)) x) (pull k g 0))
     ∙ ap (shifts (8 * e)) (six-none k top x h) ∙ shifts-zero (8 * e)
   where
     later : (i : ℕ) → shifts (8 * (e + i)) x ≡ shifts (8 * e) (shifts (8 * i) x)
@@ -53,53 +53,53 @@ past-end l i h = List·getD-eq-default l 0 h
 
 -- ---- one chunk of n bytes behind a history of 209 * k
 
-module _ (k n : ℕ) (p s r : List ℕ) (lp : length p ≡ 209 * k + n) (ls : length s ≡ n) (lr : 209 * k ≤ length r) where
+module _ (k n : ℕ) (p s r : List ℕ) (lp : length p ≡ degree * k + n) (ls : length s ≡ n) (lr : degree * k ≤ length r) where
   abbrev P : ℕ → ℕ
   P i = getD p i 0
 
   -- the history before the chunk, and behind it
   abbrev H : ℕ → ℕ
-  H i = getD (take (209 * k) p) i 0
+  H i = getD (take (degree * k) p) i 0
 
   abbrev H' : ℕ → ℕ
-  H' i = getD (take (209 * k) (drop n p)) i 0
+  H' i = getD (take (degree * k) (drop n p)) i 0
 
   abbrev X : ℕ → ℕ
   X i = bitXor (P i) (H i)
 
   abbrev q : List ℕ
-  q = drop (209 * k) p
+  q = drop (degree * k) p
 
   abbrev e : ℕ
-  e = length r - 209 * k
+  e = length r - degree * k
 
-  h-length : length (take (209 * k) p) ≡ 209 * k
-  h-length = length-take-le (209 * k) p (omega arith)
+  h-length : length (take (degree * k) p) ≡ degree * k
+  h-length = length-take-le (degree * k) p (omega arith)
 
   q-length : length q ≡ n
   q-length = simp length-drop (omega arith)
 
-  X-low : (i : ℕ) → i < 209 * k → X i ≡ 0
-  X-low i h = ap (bitXor (P i)) (getD-take (209 * k) p i 0 h) ∙ xor-self (P i)
+  X-low : (i : ℕ) → i < degree * k → X i ≡ 0
+  X-low i h = ap (bitXor (P i)) (getD-take (degree * k) p i 0 h) ∙ xor-self (P i)
 
-  X-high : (i : ℕ) → X (209 * k + i) ≡ getD q i 0
+  X-high : (i : ℕ) → X (degree * k + i) ≡ getD q i 0
   X-high i =
-      ap (bitXor (P (209 * k + i))) (past-end (take (209 * k) p) (209 * k + i) (omega (arith, h-length)))
-      ∙ xor-zero-r (P (209 * k + i)) ∙ sym (getD-drop (209 * k) p i 0)
+      ap (bitXor (P (degree * k + i))) (past-end (take (degree * k) p) (degree * k + i) (omega (arith, h-length)))
+      ∙ xor-zero-r (P (degree * k + i)) ∙ sym (getD-drop (degree * k) p i 0)
 
   behind : (i : ℕ) → P (n + i) ≡ H' i
-  behind i = elim (decLt i (209 * k)) [ yes l ↦ in-it l | no l ↦ out l ]
+  behind i = elim (decLt i (degree * k)) [ yes l ↦ in-it l | no l ↦ out l ]
     where
-      in-it : i < 209 * k → P (n + i) ≡ H' i
-      in-it l = sym (getD-take (209 * k) (drop n p) i 0 l ∙ getD-drop n p i 0)
+      in-it : i < degree * k → P (n + i) ≡ H' i
+      in-it l = sym (getD-take (degree * k) (drop n p) i 0 l ∙ getD-drop n p i 0)
 
-      out : (i < 209 * k → ⊥) → P (n + i) ≡ H' i
+      out : (i < degree * k → ⊥) → P (n + i) ≡ H' i
       out l =
           past-end p (n + i) (omega arith)
-          ∙ sym (past-end (take (209 * k) (drop n p)) i (omega (arith, length-take-le (209 * k) (drop n p) (simp length-drop (omega arith)))))
+          ∙ sym (past-end (take (degree * k) (drop n p)) i (omega (arith, length-take-le (degree * k) (drop n p) (simp length-drop (omega arith)))))
 
   -- what one of the five places leaves
-  place : (d b : ℕ) → d + b ≡ 209 * k → over 0 (λ j. X (j + b)) (n + length r) ≡ shifts (8 * (e + b)) (fed 0 q)
+  place : (d b : ℕ) → d + b ≡ degree * k → over 0 (λ j. X (j + b)) (n + length r) ≡ shifts (8 * (e + b)) (fed 0 q)
   place d b h =
       let e1 : n + length r ≡ d + (n + (e + b)) = omega arith in
       ap (over 0 (λ j. X (j + b))) e1
@@ -109,26 +109,26 @@ module _ (k n : ℕ) (p s r : List ℕ) (lp : length p ≡ 209 * k + n) (ls : le
       ∙ ap (shifts (8 * (e + b))) (ap (over 0 (λ j. getD q j 0)) (sym q-length) ∙ over-fed q 0)
     where
       at : (j : ℕ) → X (d + j + b) ≡ getD q j 0
-      at j = let e2 : d + j + b ≡ 209 * k + j = omega arith in ap X e2 ∙ X-high j
+      at j = let e2 : d + j + b ≡ degree * k + j = omega arith in ap X e2 ∙ X-high j
 
   place-0 : over 0 (λ j. X j) (n + length r) ≡ shifts (8 * e) (fed 0 q)
   place-0 =
-      over-same (n + length r) 0 (λ j. X j) (λ j. X (j + 0)) (λ j l. ap X (sym (add-zero j))) ∙ place (209 * k) 0 (omega arith)
+      over-same (n + length r) 0 (λ j. X j) (λ j. X (j + 0)) (λ j l. ap X (sym (add-zero j))) ∙ place (degree * k) 0 (omega arith)
       ∙ ap (λ (m : ℕ). shifts (8 * m) (fed 0 q)) (add-zero e)
 
   places : over 0 (λ j. pull k X j) (n + length r) ≡ pull k (λ i. shifts (8 * i) (fed 0 q)) e
   unfolding pull
   places =
-      over-xor (n + length r) 0 0 (λ j. X (j + 144 * k)) _
-      ∙ ap₂ bitXor (place (65 * k) (144 * k) (omega arith))
-      (over-xor (n + length r) 0 0 (λ j. X (j + 54 * k)) _
-      ∙ ap₂ bitXor (place (155 * k) (54 * k) (omega arith))
-      (over-xor (n + length r) 0 0 (λ j. X (j + 39 * k)) _
-      ∙ ap₂ bitXor (place (170 * k) (39 * k) (omega arith))
-      (over-xor (n + length r) 0 0 (λ j. X (j + 14 * k)) (λ j. X j)
-      ∙ ap₂ bitXor (place (195 * k) (14 * k) (omega arith)) place-0)))
+      over-xor (n + length r) 0 0 (λ j. X (j + e₄ * k)) _
+      ∙ ap₂ bitXor (place ((degree - e₄) * k) (e₄ * k) (omega arith))
+      (over-xor (n + length r) 0 0 (λ j. X (j + e₃ * k)) _
+      ∙ ap₂ bitXor (place ((degree - e₃) * k) (e₃ * k) (omega arith))
+      (over-xor (n + length r) 0 0 (λ j. X (j + e₂ * k)) _
+      ∙ ap₂ bitXor (place ((degree - e₂) * k) (e₂ * k) (omega arith))
+      (over-xor (n + length r) 0 0 (λ j. X (j + e₁ * k)) (λ j. X j)
+      ∙ ap₂ bitXor (place ((degree - e₁) * k) (e₁ * k) (omega arith)) place-0)))
 
-  module _ (top : Top k) (bp : Bytes p) (each : (j : ℕ) → j < n → getD p (j + 209 * k) 0 ≡ bitXor (getD s j 0) (pull k P j)) where
+  module _ (top : Top k) (bp : Bytes p) (each : (j : ℕ) → j < n → getD p (j + degree * k) 0 ≡ bitXor (getD s j 0) (pull k P j)) where
     abbrev F : ℕ → ℕ
     F j = bitXor (getD (s ++ r) j 0) (pull k P j)
 
@@ -137,9 +137,9 @@ module _ (k n : ℕ) (p s r : List ℕ) (lp : length p ≡ 209 * k + n) (ls : le
 
     F-front : (j : ℕ) → j < n → F j ≡ getD q j 0
     F-front j l =
-        let e1 : j + 209 * k ≡ 209 * k + j = omega arith in
+        let e1 : j + degree * k ≡ degree * k + j = omega arith in
         ap (λ (y : ℕ). bitXor y (pull k P j)) (List·getD-append s r 0 j (omega arith)) ∙ sym (each j l)
-        ∙ ap P e1 ∙ sym (getD-drop (209 * k) p j 0)
+        ∙ ap P e1 ∙ sym (getD-drop (degree * k) p j 0)
 
     F-behind : (j : ℕ) → F (n + j) ≡ E' j
     F-behind j =
@@ -160,14 +160,14 @@ module _ (k n : ℕ) (p s r : List ℕ) (lp : length p ≡ 209 * k + n) (ls : le
         (pull-same k H (λ i. bitXor (P i) (X i)) j (λ i. sym (twice (P i) (H i))) ∙ pull-xor k P X j)
         ∙ sym (xor-assoc (getD (s ++ r) j 0) (pull k P j) (pull k X j))
 
-    pub chunk : residue k (take (209 * k) (drop n p)) r ≡ residue k (take (209 * k) p) (s ++ r)
+    pub chunk : residue k (take (degree * k) (drop n p)) r ≡ residue k (take (degree * k) p) (s ++ r)
     unfolding residue
     chunk =
         let R = over 0 E' (length r) in
         let x = fed 0 q in
         let G = pull k (λ i. shifts (8 * i) x) e in
         let el : length (s ++ r) ≡ n + length r = length-append s r ∙ ap (λ (m : ℕ). m + length r) ls in
-        let er : length r ≡ 209 * k + e = omega arith in
+        let er : length r ≡ degree * k + e = omega arith in
         sym (ap (over 0 (λ j. bitXor (getD (s ++ r) j 0) (pull k H j))) el
         ∙ over-same (n + length r) 0 _ (λ j. bitXor (F j) (pull k X j)) (λ j l. splits j)
         ∙ over-xor (n + length r) 0 0 F (λ j. pull k X j)
@@ -175,11 +175,11 @@ module _ (k n : ℕ) (p s r : List ℕ) (lp : length p ≡ 209 * k + n) (ls : le
         ∙ swap (shifts (8 * length r) x) R G
         ∙ ap (bitXor R)
         (ap (λ (m : ℕ). bitXor (shifts (8 * m) x) G) er
-        ∙ six-later k x e top (fed-lt 0 q (omega arith) (bytes-drop (209 * k) bp)))
+        ∙ six-later k x e top (fed-lt 0 q (omega arith) (bytes-drop (degree * k) bp)))
         ∙ xor-zero-r R)
 
 -- `pull` reads nothing from the place 209 * k further on
-pull-upto : (k n j : ℕ) (f g : ℕ → ℕ) → 0 < k → j + 209 * k ≤ n → ((i : ℕ) → i < n → f i ≡ g i) → pull k f j ≡ pull k g j
+pull-upto : (k n j : ℕ) (f g : ℕ → ℕ) → 0 < k → j + degree * k ≤ n → ((i : ℕ) → i < n → f i ≡ g i) → pull k f j ≡ pull k g j
 unfolding pull
 pull-upto k n j f g hk l h =
     ap₂ bitXor (h _ (omega arith))
@@ -208,32 +208,32 @@ front-at l z a h below above i = elim (decLt i a) [ yes b ↦ low b | no b ↦ h
     high b = above i (omega arith) ∙ sym (past-end (take a l) i (omega (arith, length-take-le a l h)))
 
 -- n bytes of s behind the history of h, in a list that may be longer
-filled-chunk : (k n : ℕ) (h s p r : List ℕ) → 0 < k → Top k → 209 * k ≤ length h → 209 * k + n ≤ length p → n ≤ length s → 209 * k ≤ length r → Bytes p
-    → Filled k n h s p → residue k (take (209 * k) (drop n p)) r ≡ residue k (take (209 * k) h) (take n s ++ r)
+filled-chunk : (k n : ℕ) (h s p r : List ℕ) → 0 < k → Top k → degree * k ≤ length h → degree * k + n ≤ length p → n ≤ length s → degree * k ≤ length r → Bytes p
+    → Filled k n h s p → residue k (take (degree * k) (drop n p)) r ≡ residue k (take (degree * k) h) (take n s ++ r)
 filled-chunk k n h s p r hk top lh lp ls lr bp f =
-    ap (λ (l : List ℕ). residue k l r) (sym (part-take n (209 * k) (209 * k + n) p (omega arith)))
-    ∙ chunk k n p1 (take n s) r (length-take-le (209 * k + n) p lp) (length-take-le n s ls) lr top (bytes-take (209 * k + n) bp) each
-    ∙ ap (λ (l : List ℕ). residue k l (take n s ++ r)) (take-take (209 * k) (209 * k + n) p (omega arith) ∙ front)
+    ap (λ (l : List ℕ). residue k l r) (sym (part-take n (degree * k) (degree * k + n) p (omega arith)))
+    ∙ chunk k n p1 (take n s) r (length-take-le (degree * k + n) p lp) (length-take-le n s ls) lr top (bytes-take (degree * k + n) bp) each
+    ∙ ap (λ (l : List ℕ). residue k l (take n s ++ r)) (take-take (degree * k) (degree * k + n) p (omega arith) ∙ front)
   where
     p1 : List ℕ
-    p1 = take (209 * k + n) p
+    p1 = take (degree * k + n) p
 
-    at : (i : ℕ) → i < 209 * k + n → getD p i 0 ≡ getD p1 i 0
-    at i b = sym (getD-take (209 * k + n) p i 0 b)
+    at : (i : ℕ) → i < degree * k + n → getD p i 0 ≡ getD p1 i 0
+    at i b = sym (getD-take (degree * k + n) p i 0 b)
 
-    each : (j : ℕ) → j < n → getD p1 (j + 209 * k) 0 ≡ bitXor (getD (take n s) j 0) (pull k (λ i. getD p1 i 0) j)
+    each : (j : ℕ) → j < n → getD p1 (j + degree * k) 0 ≡ bitXor (getD (take n s) j 0) (pull k (λ i. getD p1 i 0) j)
     each j b =
-        sym (at (j + 209 * k) (omega arith)) ∙ f .each j b
-        ∙ ap₂ bitXor (sym (getD-take n s j 0 b)) (pull-upto k (209 * k + n) j (λ i. getD p i 0) (λ i. getD p1 i 0) hk (omega arith) at)
+        sym (at (j + degree * k) (omega arith)) ∙ f .each j b
+        ∙ ap₂ bitXor (sym (getD-take n s j 0 b)) (pull-upto k (degree * k + n) j (λ i. getD p i 0) (λ i. getD p1 i 0) hk (omega arith) at)
 
-    front : take (209 * k) p ≡ take (209 * k) h
+    front : take (degree * k) p ≡ take (degree * k) h
     front =
-        let eh : length (take (209 * k) h) ≡ 209 * k = length-take-le (209 * k) h lh in
-        let ep : length (take (209 * k) p) ≡ 209 * k = length-take-le (209 * k) p (omega arith) in
-        ext-getD 0 (take (209 * k) p) (take (209 * k) h) (omega arith)
+        let eh : length (take (degree * k) h) ≡ degree * k = length-take-le (degree * k) h lh in
+        let ep : length (take (degree * k) p) ≡ degree * k = length-take-le (degree * k) p (omega arith) in
+        ext-getD 0 (take (degree * k) p) (take (degree * k) h) (omega arith)
         (λ i l.
-        let b : i < 209 * k = omega arith in
-        getD-take (209 * k) p i 0 b ∙ f .front i b ∙ sym (getD-take (209 * k) h i 0 b))
+        let b : i < degree * k = omega arith in
+        getD-take (degree * k) p i 0 b ∙ f .front i b ∙ sym (getD-take (degree * k) h i 0 b))
 
 pub chunked : (h s p r : List ℕ) → Room bufferBytes h → Room bufferBytes p → length s ≤ chunkBytes → historyBytes ≤ length r
     → Filled 2 (length s) h s p → carried (drop (length s) p) r ≡ carried h (s ++ r)
@@ -280,10 +280,10 @@ halved s p o rp ls lo f above each =
     sym (over-fed o 0) ∙ over-same (length o) 0 (λ j. getD o j 0) E (λ j l. at j (omega arith))
     ∙ ap (over 0 E) (lo ∙ sym l2)
     ∙ filled-chunk 1 lastBytes (replicate 592 0) s p (drop lastBytes s) (omega arith) top-1 (omega arith) (omega (arith, rp .size)) (omega arith) (omega (arith, l2)) (rp .bytes) f
-    ∙ ap (residue 1 (take 209 (replicate 592 0))) (take-append-drop lastBytes s) ∙ none 1 (take 209 (replicate 592 0)) s (zeros-at 209)
+    ∙ ap (residue 1 (take degree (replicate 592 0))) (take-append-drop lastBytes s) ∙ none 1 (take degree (replicate 592 0)) s (zeros-at degree)
   where
     H : ℕ → ℕ
-    H i = getD (take 209 (drop lastBytes p)) i 0
+    H i = getD (take degree (drop lastBytes p)) i 0
 
     E : ℕ → ℕ
     E j = bitXor (getD (drop lastBytes s) j 0) (pull 1 H j)
@@ -295,7 +295,7 @@ halved s p o rp ls lo f above each =
     go j a b e =
         let e1 : b ≡ lastBytes + (j + a) = omega arith in
         ap (λ (m : ℕ). getD p m 0) e1 ∙ sym (getD-drop lastBytes p (j + a) 0)
-        ∙ front-at (drop lastBytes p) (drop lastBytes p) 209 (simp length-drop (omega (arith, rp .size))) (λ m l. refl)
+        ∙ front-at (drop lastBytes p) (drop lastBytes p) degree (simp length-drop (omega (arith, rp .size))) (λ m l. refl)
         (λ m l. getD-drop lastBytes p m 0 ∙ above (lastBytes + m) (omega arith)) (j + a)
 
     at : (j : ℕ) → j < lastBytes → getD o j 0 ≡ E j
@@ -303,10 +303,10 @@ halved s p o rp ls lo f above each =
         let e0 : j + lastBytes ≡ lastBytes + j = omega arith in
         each j b
         ∙ ap₂ bitXor (ap (λ (m : ℕ). getD s m 0) e0 ∙ sym (getD-drop lastBytes s j 0))
-        (ap₂ bitXor (go j 144 (j + 368) (omega arith))
-        (ap₂ bitXor (go j 54 (j + 278) (omega arith))
-        (ap₂ bitXor (go j 39 (j + 263) (omega arith))
-        (ap₂ bitXor (go j 14 (j + 238) (omega arith)) (go j 0 (j + lastBytes) (omega arith) ∙ ap H (add-zero j))))))
+        (ap₂ bitXor (go j e₄ (j + 368) (omega arith))
+        (ap₂ bitXor (go j e₃ (j + 278) (omega arith))
+        (ap₂ bitXor (go j e₂ (j + 263) (omega arith))
+        (ap₂ bitXor (go j e₁ (j + 238) (omega arith)) (go j 0 (j + lastBytes) (omega arith) ∙ ap H (add-zero j))))))
 
 -- ---- the start: the register stands in the first four bytes of the history
 
