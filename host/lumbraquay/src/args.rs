@@ -6,8 +6,10 @@ use std::ffi::{OsStr, OsString};
 use std::path::Path;
 
 use crate::failure::Failure;
+use crate::files;
 use crate::json::Json;
 use crate::output::Output;
+use crate::show::Names;
 
 pub struct Command {
     pub name: &'static str,
@@ -60,6 +62,10 @@ pub const FLOOR: Choice = Choice::value(
     "all up to this LSN is known to be flushed; 0 where not given",
 );
 
+pub const QUIET: Choice = Choice::flag(
+    "--quiet",
+    "print nothing but failures; the exit status tells the rest",
+);
 pub const LOG_UNTIL: Choice = Choice::value(
     "--log-until",
     "OFFSET",
@@ -178,6 +184,10 @@ impl Parsed {
         if let Some((name, about)) = takes.get(self.given.len()) {
             return Err(self.wrong(format!("{name} is missing: {about}")));
         }
+        let standard = self.given.iter().filter(|given| *given == files::STANDARD);
+        if standard.count() > 1 {
+            return Err(self.wrong("only one file can be standard input".to_string()));
+        }
         match self.given.get(takes.len()) {
             None => Ok(()),
             Some(word) => Err(self.wrong(format!(
@@ -239,6 +249,30 @@ impl Parsed {
         value
             .map(|value| self.parse(name, value, u64::MAX))
             .transpose()
+    }
+
+    /// One of these names, which may be given by its number.
+    pub fn chosen_name(&self, option: &str, names: Names) -> Result<Option<&'static str>, Failure> {
+        let Some(value) = self.chosen.get(option) else {
+            return Ok(None);
+        };
+        let text = value.to_string_lossy();
+        let known = names
+            .iter()
+            .find(|(number, name)| name.eq_ignore_ascii_case(&text) || number.to_string() == text);
+        match known {
+            Some((_, name)) => Ok(Some(name)),
+            None => {
+                let names: Vec<String> = names
+                    .iter()
+                    .map(|(number, name)| format!("{name} ({number})"))
+                    .collect();
+                Err(self.wrong(format!(
+                    "{option} is '{text}', none of {}",
+                    names.join(", ")
+                )))
+            }
+        }
     }
 
     fn parse(&self, name: &str, word: &OsStr, most: u64) -> Result<u64, Failure> {

@@ -178,7 +178,7 @@ fn clash(log: &Log, place: u64) -> Option<String> {
     let slot = walk::target(&log.bytes, &own)?;
     let mut open: BTreeMap<u64, Step> = BTreeMap::new();
     for step in before(log, place).filter(|step| step.transaction != own.transaction) {
-        if walk::is_ending(&step) {
+        if walk::is_commit(&step) || walk::is_rollback(&step) {
             open.remove(&step.transaction);
         } else if step.transaction != 0 && walk::target(&log.bytes, &step) == Some(slot) {
             open.insert(step.transaction, step);

@@ -2,6 +2,7 @@
 
 mod advice;
 mod args;
+mod changes;
 mod commands;
 mod done;
 mod failure;
@@ -12,11 +13,15 @@ mod held;
 mod input;
 mod json;
 mod memory;
+mod mended;
 mod output;
 mod plain;
 mod portal;
 mod show;
+mod slow;
+mod stats;
 mod sys;
+mod tuple;
 mod walk;
 
 use std::ffi::OsString;
@@ -24,7 +29,7 @@ use std::process::ExitCode;
 use std::thread;
 
 use args::{Command, Parsed};
-use failure::{note, Failure};
+use failure::{tell, Failure};
 use json::Json;
 use output::Output;
 
@@ -39,7 +44,7 @@ fn main() -> ExitCode {
     let thread = thread::Builder::new().stack_size(STACK_BYTES);
     let status = match thread.spawn(work) {
         Ok(thread) => thread.join().unwrap_or_else(|_| {
-            note(format_args!("internal error; {}", done::so_far()));
+            tell(format_args!("internal error; {}", done::so_far()));
             if done::marked().is_some() {
                 4
             } else {
@@ -47,7 +52,7 @@ fn main() -> ExitCode {
             }
         }),
         Err(error) => {
-            note(format_args!(
+            tell(format_args!(
                 "no room for a stack of {STACK_BYTES} bytes: {error}"
             ));
             2
@@ -132,6 +137,14 @@ fn run(words: &[OsString], output: &mut Output, told: &mut Told) -> Result<(), F
                 return output.text(&command.help());
             };
             told.json = parsed.flag("--json");
+            if parsed.flag("--quiet") {
+                if told.json {
+                    return Err(parsed.wrong("--quiet does not go with --json".to_string()));
+                }
+                failure::be_quiet();
+                *output = Output::quiet();
+            }
+            slow::watch();
             let done = (command.run)(&parsed, output);
             told.fields = parsed.fields();
             done

@@ -2,31 +2,44 @@
 
 use crate::plain::quoted;
 
+/// Numbers with their names.
+pub type Names = &'static [(u64, &'static str)];
+
+pub const ENTRY_TYPES: Names = &[
+    (1, "Begin"),
+    (2, "Commit"),
+    (3, "Rollback"),
+    (4, "Insert"),
+    (5, "Delete"),
+    (7, "Checkpoint"),
+    (10, "UpdateInPlace"),
+];
+
+pub const PAGE_TYPES: Names = &[
+    (0, "meta"),
+    (1, "data"),
+    (2, "index"),
+    (3, "overflow"),
+    (4, "free"),
+    (5, "clustered"),
+    (6, "clustered"),
+];
+
+fn name(names: Names, number: u64) -> &'static str {
+    let mut names = names.iter();
+    names
+        .find(|(known, _)| *known == number)
+        .map_or("unknown", |(_, name)| name)
+}
+
 /// The name of an entry's type.
 pub fn entry_type(number: u64) -> &'static str {
-    match number {
-        1 => "Begin",
-        2 => "Commit",
-        3 => "Rollback",
-        4 => "Insert",
-        5 => "Delete",
-        7 => "Checkpoint",
-        10 => "UpdateInPlace",
-        _ => "unknown",
-    }
+    name(ENTRY_TYPES, number)
 }
 
 /// The name of a page's type.
 pub fn page_type(number: u8) -> &'static str {
-    match number {
-        0 => "meta",
-        1 => "data",
-        2 => "index",
-        3 => "overflow",
-        4 => "free",
-        5 | 6 => "clustered",
-        _ => "unknown",
-    }
+    name(PAGE_TYPES, number.into())
 }
 
 /// How a transaction ended.

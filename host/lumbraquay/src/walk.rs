@@ -2,6 +2,7 @@
 
 use library::{Step, LOG_HEAD_BYTES, STEP_ENTRY};
 
+const BEGIN: u64 = 1;
 const COMMIT: u64 = 2;
 const ROLLBACK: u64 = 3;
 const INSERT: u64 = 4;
@@ -38,12 +39,16 @@ pub fn is_change(step: &Step) -> bool {
     matches!(step.entry_type, INSERT | DELETE | UPDATE)
 }
 
+pub fn is_begin(step: &Step) -> bool {
+    step.entry_type == BEGIN
+}
+
 pub fn is_commit(step: &Step) -> bool {
     step.entry_type == COMMIT
 }
 
-pub fn is_ending(step: &Step) -> bool {
-    matches!(step.entry_type, COMMIT | ROLLBACK)
+pub fn is_rollback(step: &Step) -> bool {
+    step.entry_type == ROLLBACK
 }
 
 /// The bytes of the tuple in a change's value: the values of an UpdateInPlace start with the key.

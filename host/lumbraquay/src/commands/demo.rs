@@ -65,7 +65,7 @@ fn run(parsed: &Parsed, output: &mut Output) -> Result<(), Failure> {
         .collect();
     if parsed.flag("--json") {
         let result = if wrong.is_empty() { "done" } else { "differs" };
-        let mut fields = head_fields(parsed, result, report.answer.verdict());
+        let mut fields = head_fields(parsed, result, report.mended.answer.verdict());
         fields.push(("directory", Json::text(directory.display())));
         fields.push(("recovery", Json::Object(report.fields())));
         fields.push((
@@ -175,7 +175,8 @@ fn print(
 ) -> Result<(), Failure> {
     output.line("The power failed at a portal for crane parts. Its disk held some pages too old, some too new, and a torn log:")?;
     output.line(format_args!("  {}\n", directory.display()))?;
-    report.tell(output, true)?;
+    report.mended.tell(output, true)?;
+    output.line(report.written())?;
     output.line("\nWhat became of each order:")?;
     for Told {
         order,

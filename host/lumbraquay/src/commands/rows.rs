@@ -3,8 +3,7 @@
 //! The library's own listing checks all pages at every step, so a walk over a large file would take hours. Here it checks
 //! them once, and the slots of good pages are read as they stand; the tests compare that with the library's walk.
 
-use library::refusal::NO_SUCH_PAGE;
-use library::{Verdict, PAGE_BYTES};
+use library::PAGE_BYTES;
 
 use crate::advice::unless_refused;
 use crate::args::{Choice, Command, Parsed, JSON, MAGIC};
@@ -84,13 +83,7 @@ fn run(parsed: &Parsed, output: &mut Output) -> Result<(), Failure> {
     let pages = Pages::read(parsed)?;
     let verdict = library::verify(pages.magic, &pages.bytes);
     unless_refused(parsed, output, verdict, Read::pages(&pages))?;
-    if only.is_some_and(|page| page >= pages.count() as u64) {
-        let beyond = Verdict {
-            number: NO_SUCH_PAGE,
-            place: 0,
-        };
-        unless_refused(parsed, output, beyond, Read::pages(&pages))?;
-    }
+    super::must_have_page(parsed, output, &pages, only)?;
 
     let rows = visible(&pages.bytes)
         .filter(|row| only.is_none_or(|page| page == row.page as u64))

@@ -3,7 +3,7 @@
 use library::PAGE_BYTES;
 
 use crate::advice::unless_refused;
-use crate::args::{Command, Parsed, JSON, MAGIC};
+use crate::args::{Command, Parsed, JSON, MAGIC, QUIET};
 use crate::failure::Failure;
 use crate::input::{head_fields, Pages, Read};
 use crate::json::Json;
@@ -14,7 +14,7 @@ pub const COMMAND: Command = Command {
     name: "verify",
     about: "says whether every page is good",
     takes: &[super::PAGES],
-    options: &[MAGIC, JSON],
+    options: &[MAGIC, QUIET, JSON],
     more: "A page is good if its magic, type, id and checksum are right and, on a data page, every slot is.",
     run,
 };

@@ -63,9 +63,9 @@ fn every_end_has_a_result() {
         ("missing", true)
     );
     let wrong = result("recover outage.pages --json", 2, "error");
-    assert!(wrong
-        .text("message")
-        .starts_with("LOG is missing: the log file\nuse: lumbraquay recover"));
+    assert!(wrong.text("message").starts_with(
+        "LOG is missing: the log file; - for standard input\nuse: lumbraquay recover"
+    ));
     let unknown = sandbox
         .say("mend --json")
         .fails_as_json("'mend' is no command");

@@ -10,6 +10,7 @@ mod json;
 mod kills;
 mod listing;
 mod log;
+mod looking;
 mod place;
 mod recover;
 mod refusals;
