@@ -1,4 +1,4 @@
-// What other crates call with a `requires`: a page's fields, its first fault, the next visible row, and the packed page writer.
+// What other crates call with a `requires`: a page's fields, its first fault, the next visible row, the packed page writer, and the bits of a map of free pages.
 ghost use mathlib.Core.Path.{_≡_};
 ghost use Prim.Native.Nat.{ℕ, _+_, _*_, _-_, _≤_, _<_};
 ghost use lib.ListN.{length};
@@ -9,10 +9,12 @@ ghost use Rattle.page.specs.Layout.{pageBytes, bodyBytes, slotLimit, pag
 ghost use Rattle.page.specs.Fault.{dataFault, faultOf, faultVerdict, lateOf, pageVerdict, firstBad, sizeWrong, verdictOf};
 ghost use Rattle.endian.specs.Pick.{pick};
 ghost use Rattle.page.specs.Rows.{Listable, visibleRows, firstAt};
+ghost use Rattle.page.specs.FreeMap.{freeBit, onesOf};
 ghost use Rattle.page.specs.Packed.{packed};
 ghost use Rattle.page.specs.Writer.{withSlot, headOf, sealed, givenAll, partsFit};
 use crate::BODY_BYTES;
 use crate::DATA_TYPE;
+use crate::FREE_TYPE;
 use crate::Fault;
 use crate::HEAD_BYTES;
 use crate::LAST_TYPE;
@@ -34,6 +36,7 @@ use crc32c::inner::crc32c;
 use endian::Lsn;
 use endian::PageNumber;
 use endian::inner::put_u16;
+use endian::inner::short_at;
 use endian::inner::u16_at;
 use endian::inner::u32_at;
 use endian::inner::u64_at;
@@ -343,4 +346,31 @@ pub fn write_packed(
     seal(t, &mut work, h, reserved, lengths.len(), top);
     store(pages, index, &work);
     true
+}
+
+// 1 where page i is lent and free, else 0.
+pub fn free_bit(pages: &[u8], i: usize) -> u8
+    ensures { λ r. ⌜ (r ≡ freeBit (now (pages .entry)) i) × (r ≤ 1) ⌝ }
+{
+    if pages.len() / PAGE_BYTES <= i {
+        return 0;
+    }
+    if pages[i * PAGE_BYTES + 8] == FREE_TYPE {
+        return 1;
+    }
+    0
+}
+
+// How many bits of the bytes of a map are 1: eight bytes at a time, then the rest.
+pub fn ones(map: &[u8]) -> u64
+    requires { ⌜ length (now map) ≤ 65536 ⌝ }
+    ensures { λ r. ⌜ r ≡ onesOf (now (map .entry)) ⌝ }
+{
+    let mut total: u64 = 0;
+    let mut i: usize = 0;
+    while i + 8 <= map.len() {
+        total += u64::count_ones(u64_at(map, i)) as u64;
+        i += 8;
+    }
+    total + u64::count_ones(short_at(map, i)) as u64
 }

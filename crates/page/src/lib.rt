@@ -165,6 +165,6 @@ pub fn free_map(magic: u64, pages: &[u8], map: &mut [u8]) -> FreeMap
             number: 0,
             place: 0,
         },
-        free: map::free_pages(pages, count),
+        free: inner::ones(&map[..need]),
     }
 }

@@ -4,12 +4,17 @@
 mod demo;
 mod disk;
 mod documents;
+mod ends;
 mod inputs;
 mod json;
+mod kills;
 mod listing;
 mod log;
+mod looking;
+mod place;
 mod recover;
 mod refusals;
 mod replay;
 mod sandbox;
+mod tools;
 mod usage;
