@@ -2,16 +2,16 @@
 -- Assumes nothing.
 use mathlib.Core.Path.{_≡_, refl, sym, ap, ap₂, _∙_}
 use mathlib.Core.List.{List, [], _∷_, _++_, append-nil}
-use Prim.Native.Nat.{ℕ, zero, suc, _+_, _*_, _-_, _/_, _^_, _≤_, _<_}
+use Prim.Native.Nat.{ℕ, zero, suc, _+_, _*_, _-_, _≤_, _<_}
 use native.Mathlib.Nat.{zero-add, suc-add}
 use native.Mathlib.Numerals.{add-one}
 use native.Mathlib.Omega.{arith}
-use lib.Bits.{bitXor, xor-comm, xor-zero-r, xor-shifted, xor-lt}
+use lib.Bits.{bitXor, xor-comm, xor-zero-r, xor-shifted}
 use lib.ListN.{length, getD, take, drop, take-append-drop, length-drop, drop-of-length-le}
-use lib.Seq.{drop-cons, length-take-le, drop-drop, take-all, take-nil}
+use lib.Seq.{drop-cons, length-take-le, drop-drop, take-nil}
 use Rattle.endian.specs.Numbers.{Bytes, numberOf, numberAt}
 use Rattle.endian.proofs.Bytes.{bytes-take, bytes-drop}
-use Rattle.crc32c.specs.Crc.{poly, shift, shifts, fed, start, finished, crc32c}
+use Rattle.crc32c.specs.Crc.{shift, shifts, fed, start, finished, crc32c}
 use Rattle.crc32c.proofs.Xor.{xor-assoc}
 use Rattle.crc32c.proofs.Shifts.{shifts-xor, shifts-out, shifts-add}
 use Rattle.crc32c.proofs.Over.{fed-from}
@@ -119,6 +119,22 @@ piece s i n c r e =
     ap₂ fed e (sym (drop-drop n i s)) ∙ sym (fed-append c (take n (drop i s)) (drop n (drop i s)))
     ∙ ap (fed c) (take-append-drop n (drop i s))
 
--- `&s[i..]` is the rest
-pub rest : (s : List ℕ) (i c : ℕ) → fed c (take (length s - i) (drop i s)) ≡ fed c (drop i s)
-rest s i c = ap (fed c) (take-all (length s - i) (drop i s) (simp length-drop (omega arith)))
+-- the steps of the code, from the sums of their parts
+pub step-4 : (s : List ℕ) (i c r : ℕ) → r ≡ shifts 0 (fed c (take 4 (drop i s))) → fed r (drop (i + 4) s) ≡ fed c (drop i s)
+unfolding shifts
+step-4 s i c r e = piece s i 4 c r e
+
+pub step-8 : (s : List ℕ) (i c x y : ℕ) → i + 8 ≤ length s → y ≡ shifts 0 (fed 0 (take 4 (drop (i + 4) s))) → x ≡ shifts 32 (fed c (take 4 (drop i s)))
+    → fed (bitXor y x) (drop (i + 8) s) ≡ fed c (drop i s)
+unfolding shifts
+step-8 s i c x y h ey ex = piece s i 8 c (bitXor y x) (join s i (i + 4) 4 4 0 4 c x y refl refl (omega arith) ey ex)
+
+pub step-16 : (s : List ℕ) (i c x y₁ y₂ y₃ : ℕ) → i + 16 ≤ length s → y₃ ≡ shifts 0 (fed 0 (take 4 (drop (i + 12) s))) → y₂ ≡ shifts 32 (fed 0 (take 4 (drop (i + 8) s)))
+    → y₁ ≡ shifts 64 (fed 0 (take 4 (drop (i + 4) s))) → x ≡ shifts 96 (fed c (take 4 (drop i s)))
+    → fed (bitXor (bitXor (bitXor y₃ y₂) y₁) x) (drop (i + 16) s) ≡ fed c (drop i s)
+unfolding shifts
+step-16 s i c x y₁ y₂ y₃ h e₃ e₂ e₁ ex =
+    piece s i 16 c (bitXor (bitXor (bitXor y₃ y₂) y₁) x)
+    (join s i (i + 4) 4 12 0 12 c x (bitXor (bitXor y₃ y₂) y₁) refl refl (omega arith)
+    (join s (i + 4) (i + 8) 4 8 0 8 0 y₁ (bitXor y₃ y₂) (omega arith) refl (omega arith)
+    (join s (i + 8) (i + 12) 4 4 0 4 0 y₂ y₃ (omega arith) refl (omega arith) e₃ e₂) e₁) ex)

@@ -12,6 +12,7 @@ pub mod Mapping
 pub mod Picks
 pub mod Reading
 pub mod SlotLaws
+pub mod GranuleLaws
 pub mod FaultLaws
 pub mod Verdicts
 pub mod FaultCases

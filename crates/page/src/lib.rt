@@ -9,6 +9,7 @@ use refusals::MAP_SHORT;
 use refusals::Verdict;
 
 mod faults;
+mod granules;
 pub mod inner;
 mod map;
 mod rows;
@@ -129,6 +130,6 @@ pub fn free_map(magic: u64, pages: &[u8], map: &mut [u8]) -> FreeMap
             number: 0,
             place: 0,
         },
-        free: map::free_pages(pages, count),
+        free: inner::ones(&map[..need]),
     }
 }

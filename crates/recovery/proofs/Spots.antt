@@ -33,7 +33,7 @@ use Rattle.images.specs.Tuples.{Lies, Stood, tupleIn, paged}
 use Rattle.images.specs.Page.{Sound, Fitting}
 use Rattle.images.proofs.Deciding.{top-fits}
 use Rattle.recovery.specs.Spot.{shiftedBy, nowhereBy, Spotted}
-use Rattle.recovery.proofs.JudgeLaws.{then-refused, then-accepted}
+use Rattle.refusals.proofs.Then.{then-refused, then-accepted}
 
 -- ---- an image of a page, as one of the page area
 

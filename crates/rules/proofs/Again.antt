@@ -35,7 +35,8 @@ use Rattle.rules.proofs.Accepted.{mend-accepted}
 use Rattle.rules.proofs.OrderLaws.{every-map, InTurn, in-turn, last-bounds, last-small}
 use Rattle.rules.proofs.ImageLaws.{InRange, images-bytes, images-of, tuple-images}
 use Rattle.rules.proofs.Range.{in-range}
-use Rattle.rules.proofs.Verdicts.{Accepted, is-accepted, accepted-is, then-zero}
+use Rattle.rules.proofs.Verdicts.{Accepted, is-accepted, accepted-is}
+use Rattle.refusals.proofs.Then.{then-zero}
 use Rattle.rules.proofs.Area.{page-mended, mended-alike}
 
 -- an answer of 0 comes from no refusal

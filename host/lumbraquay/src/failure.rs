@@ -3,8 +3,10 @@
 use std::fmt::Display;
 use std::io::{ErrorKind, Write};
 use std::path::Path;
+use std::sync::atomic::{AtomicBool, Ordering};
 
 use crate::done;
+use crate::plain::plain;
 
 pub enum Failure {
     /// The words on the command line are wrong.
@@ -66,12 +68,27 @@ impl Failure {
     pub fn tell(&self) {
         let text = self.text();
         if !text.is_empty() {
-            note(text.trim_end());
+            tell(text.trim_end());
         }
     }
 }
 
-/// Prints a line on standard error. With that closed too, the exit status has to say it all.
+static QUIET: AtomicBool = AtomicBool::new(false);
+
+/// From now on nothing but failures is told.
+pub fn be_quiet() {
+    QUIET.store(true, Ordering::Relaxed);
+}
+
+/// Prints what is good to know on standard error.
 pub fn note(text: impl Display) {
-    let _ = writeln!(std::io::stderr(), "lumbraquay: {text}");
+    if !QUIET.load(Ordering::Relaxed) {
+        tell(text);
+    }
+}
+
+/// Prints a line on standard error. With that closed too, the exit status has to say it all.
+pub fn tell(text: impl Display) {
+    let text = format!("lumbraquay: {text}\n");
+    let _ = std::io::stderr().write_all(plain(&text).as_bytes());
 }

@@ -3,6 +3,7 @@
 use std::ffi::OsString;
 use std::fs::{self, File, Metadata};
 use std::io::{ErrorKind, Read};
+use std::os::fd::AsFd;
 use std::os::unix::fs::MetadataExt;
 use std::path::{Path, PathBuf};
 
@@ -10,6 +11,7 @@ use crate::done::Mark;
 use crate::failure::Failure;
 use crate::fresh::{give_rights, sweep, unless_stopped, Fresh};
 use crate::memory;
+use crate::slow::{self, Work};
 use crate::sys::Signals;
 
 /// How many bytes are written or compared at a time.
@@ -21,6 +23,13 @@ pub struct Whole {
     /// How many bytes the file has; more than were read if it is over the limit.
     pub length: u64,
     pub seen: Seen,
+}
+
+/// The name that stands for standard input and output.
+pub const STANDARD: &str = "-";
+
+pub fn is_standard(path: &Path) -> bool {
+    path == Path::new(STANDARD)
 }
 
 /// A file that was read, and how it stood then. It stays open.
@@ -64,7 +73,14 @@ impl Stamp {
 impl Seen {
     pub fn open(path: &Path) -> Result<Seen, Failure> {
         let open = |error| Failure::file("open", path, error);
-        let file = File::open(path).map_err(open)?;
+        let file = match is_standard(path) {
+            true => std::io::stdin()
+                .as_fd()
+                .try_clone_to_owned()
+                .map(File::from),
+            false => File::open(path),
+        };
+        let file = file.map_err(open)?;
         let found = file.metadata().map_err(open)?;
         if found.is_dir() {
             return Err(Failure::file("read", path, "it is a directory"));
@@ -97,8 +113,11 @@ impl Seen {
         if !own.is_file() {
             return Ok(());
         }
-        let named = fs::metadata(&self.path).map_err(cannot)?;
-        if Stamp::of(&own) == self.stamp && Stamp::of(&named) == self.stamp {
+        let is_named = is_standard(&self.path) || {
+            let named = fs::metadata(&self.path).map_err(cannot)?;
+            Stamp::of(&named) == self.stamp
+        };
+        if Stamp::of(&own) == self.stamp && is_named {
             return Ok(());
         }
         let why = "another process changed it after it was read; no file was changed";
@@ -107,6 +126,7 @@ impl Seen {
 }
 
 pub fn read(path: &Path, limit: usize) -> Result<Whole, Failure> {
+    slow::at(Work::Reading);
     Seen::open(path)?.read(limit)
 }
 
@@ -140,6 +160,7 @@ pub fn write_new(
     like: Option<&Seen>,
     replace: bool,
 ) -> Result<(), Failure> {
+    slow::at(Work::Writing);
     check_new(path, replace)?;
     sweep(path, None);
     let _signals = Signals::held();

@@ -9,6 +9,7 @@ use crate::failure::{note, Failure};
 use crate::files::{is_one_file, lasting, sync_directory, Seen, Stamp, Whole, PIECE_BYTES};
 use crate::fresh::{backup_name, keep_all, sweep, unless_stopped, Fresh, Unnamed, MOST_NAMES};
 use crate::show;
+use crate::slow::{self, Work};
 use crate::sys::{self, Signals};
 
 /// A page file that is to be replaced: locked, and watched for others that open it for writing.
@@ -25,6 +26,7 @@ impl Held {
     /// Takes the lock; one that another process holds is not waited for. What killed runs left behind is removed.
     pub fn take(path: &Path) -> Result<Held, Failure> {
         let cannot = |why: String| Failure::file("replace", path, why);
+        slow::at(Work::Reading);
         let seen = Seen::open(path)?;
         if !seen.file.metadata().is_ok_and(|found| found.is_file()) {
             return Err(cannot("it is no plain file".to_string()));
@@ -102,6 +104,7 @@ impl Held {
     /// Puts new bytes in the place of the old ones, of which a copy stays beside it. Gives the copy's path.
     /// Stops, with all as it was, if the file or the log has changed since they were read.
     pub fn replace(&self, log: &Seen, old: &[u8], new: &[u8]) -> Result<PathBuf, Failure> {
+        slow::at(Work::Writing);
         let path = &self.path;
         let _signals = Signals::held();
         let fresh = Fresh::write(path, new, true, |file| keep_all(file, &self.seen.file))?;

@@ -1,8 +1,8 @@
 //! The two files that commands read, and the options that say how.
 
-use std::path::{Path, PathBuf};
+use std::path::PathBuf;
 
-use library::{Verdict, LOG_LIMIT_BYTES, PAGE_BYTES, PAGE_LIMIT};
+use library::{Verdict, LOG_HEAD_BYTES, LOG_LIMIT_BYTES, PAGE_BYTES, PAGE_LIMIT};
 
 use crate::args::Parsed;
 use crate::failure::Failure;
@@ -46,9 +46,11 @@ impl Pages {
             return Err(Failure::file("use", path, "it is empty and holds no page"));
         }
         let given = parsed.chosen_number("--magic")?;
+        let magic = given.unwrap_or_else(|| magic_of_page_0(&bytes));
+        parsed.magic.set(Some(magic));
         Ok(Pages {
             path: path.to_path_buf(),
-            magic: given.unwrap_or_else(|| magic_of_page_0(&bytes)),
+            magic,
             magic_given: given.is_some(),
             bytes,
             length,
@@ -107,32 +109,51 @@ pub struct Log {
     pub bytes: Vec<u8>,
     /// The file's length, of which no more bytes are read than the library would take and one.
     pub length: u64,
+    /// Up to where it is taken, if not to its end.
+    pub until: Option<u64>,
     pub seen: Seen,
 }
 
 impl Log {
-    pub fn read(path: &Path) -> Result<Log, Failure> {
+    /// Reads the log file that a command takes at an index, up to --log-until if that is given.
+    pub fn read(parsed: &Parsed, index: usize) -> Result<Log, Failure> {
+        let path = parsed.path(index);
         let Whole {
-            bytes,
+            mut bytes,
             length,
             seen,
         } = files::read(path, LOG_LIMIT_BYTES)?;
+        let until = parsed.chosen_number("--log-until")?;
+        if let Some(until) = until {
+            if until < LOG_HEAD_BYTES as u64 || until > length {
+                return Err(parsed.wrong(format!(
+                    "--log-until is {until}, not from 32, where entries start, to {length}, where the log ends"
+                )));
+            }
+            bytes.truncate(usize::try_from(until).unwrap_or(usize::MAX));
+        }
         Ok(Log {
             path: path.to_path_buf(),
             bytes,
             length,
+            until,
             seen,
         })
     }
 
     pub fn line(&self) -> String {
-        format!("{}: {} bytes", self.path.display(), self.bytes.len())
+        let until = match self.until {
+            Some(until) => format!(", taken up to {until}"),
+            None => String::new(),
+        };
+        format!("{}: {} bytes{until}", self.path.display(), self.length)
     }
 
     pub fn fields(&self) -> Vec<(&'static str, Json)> {
         vec![
             ("log_file", Json::text(self.path.display())),
-            ("log_bytes", self.bytes.len().into()),
+            ("log_bytes", self.length.into()),
+            ("log_until", self.until.map_or(Json::Null, Json::from)),
         ]
     }
 }
@@ -142,6 +163,7 @@ impl Log {
 pub struct Read<'a> {
     pub pages: Option<&'a Pages>,
     pub log: Option<&'a Log>,
+    pub floor: u64,
 }
 
 impl<'a> Read<'a> {
@@ -149,6 +171,7 @@ impl<'a> Read<'a> {
         Read {
             pages: Some(pages),
             log: None,
+            floor: 0,
         }
     }
 
@@ -156,24 +179,35 @@ impl<'a> Read<'a> {
         Read {
             pages: None,
             log: Some(log),
+            floor: 0,
         }
     }
 
-    pub fn both(pages: &'a Pages, log: &'a Log) -> Read<'a> {
+    pub fn both(pages: &'a Pages, log: &'a Log, floor: u64) -> Read<'a> {
         Read {
             pages: Some(pages),
             log: Some(log),
+            floor,
         }
     }
 }
 
 /// The fields that every JSON object starts with.
-pub fn verdict_fields(parsed: &Parsed, verdict: Verdict) -> Vec<(&'static str, Json)> {
+pub fn head_fields(parsed: &Parsed, result: &str, verdict: Verdict) -> Vec<(&'static str, Json)> {
     let name = library::refusal::refusal(verdict.number).map_or("DONE", |refusal| refusal.name);
     vec![
         ("command", parsed.name().into()),
+        ("result", result.into()),
         ("number", verdict.number.into()),
         ("name", name.into()),
         ("place", verdict.place.into()),
     ]
+}
+
+impl Read<'_> {
+    pub fn fields(&self) -> Vec<(&'static str, Json)> {
+        let mut fields = self.pages.map_or(Vec::new(), Pages::fields);
+        fields.extend(self.log.map_or(Vec::new(), Log::fields));
+        fields
+    }
 }

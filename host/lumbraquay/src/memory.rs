@@ -21,6 +21,9 @@ static KEPT: AtomicPtr<u8> = AtomicPtr::new(std::ptr::null_mut());
 /// Whether the run goes on without the memory that it asks for.
 static ASKING: AtomicBool = AtomicBool::new(false);
 
+/// Whether an end is told as a JSON object.
+static JSON: AtomicBool = AtomicBool::new(false);
+
 struct Told;
 
 #[global_allocator]
@@ -76,15 +79,27 @@ pub fn prepare() {
     KEPT.store(kept, Ordering::SeqCst);
 }
 
+pub fn tell_as_json(json: bool) {
+    JSON.store(json, Ordering::SeqCst);
+}
+
 /// Ends the run without any memory.
 fn end() -> ! {
-    let tell = |text: &str| unsafe {
-        write(2, text.as_ptr().cast(), text.len());
+    let tell = |file: c_int, text: &str| unsafe {
+        write(file, text.as_ptr().cast(), text.len());
     };
-    tell("lumbraquay: out of memory; ");
-    tell(done::so_far());
-    tell("\n");
-    unsafe { _exit(if done::marked().is_some() { 4 } else { 2 }) }
+    let is_done = done::marked().is_some();
+    if JSON.load(Ordering::SeqCst) && !is_done {
+        tell(
+            1,
+            "{\"result\":\"error\",\"message\":\"out of memory; no file was changed\"}\n",
+        );
+    } else {
+        tell(2, "lumbraquay: out of memory; ");
+        tell(2, done::so_far());
+        tell(2, "\n");
+    }
+    unsafe { _exit(if is_done { 4 } else { 2 }) }
 }
 
 /// Does what may find no memory, and goes on without.

@@ -4,11 +4,13 @@
 mod demo;
 mod disk;
 mod documents;
+mod ends;
 mod inputs;
 mod json;
 mod kills;
 mod listing;
 mod log;
+mod looking;
 mod place;
 mod recover;
 mod refusals;

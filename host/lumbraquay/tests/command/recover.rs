@@ -296,9 +296,10 @@ fn floor_and_magic_are_options() {
     sandbox.write("log", &log);
     let words = "recover pages log --dry-run";
     for more in ["", "--floor 8", "--floor=0x8"] {
-        sandbox
-            .say(&format!("{words} {more}"))
-            .refuses(&["refused: 12 PAGE_LSN at page 0 of pages, offset 0", "LSN 9"]);
+        sandbox.say(&format!("{words} {more}")).refuses(&[
+            "refused: 12 PAGE_LSN at page 0 of pages, offset 0",
+            "the page's LSN is 9",
+        ]);
     }
     sandbox
         .say(&format!("{words} --floor 9"))

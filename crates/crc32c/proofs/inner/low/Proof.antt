@@ -1,4 +1,3 @@
-use borrow.Author.Needs.{needs}
 use Rattle.crc32c.proofs.inner.low.Statement.{statement}
 use Rattle.crc32c.proofs.inner.low.Tie as tie
 use native.Mathlib.Omega.{arith}

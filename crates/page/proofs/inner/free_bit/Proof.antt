@@ -1,8 +1,8 @@
 use native.Mathlib.Omega.{arith}
 use borrow.Author.Needs.{needs}
 use Rattle.page.proofs.Mapping.{bit-past, bit-free, bit-other}
-use Rattle.page.proofs.map.free_bit.Statement.{statement}
-use Rattle.page.proofs.map.free_bit.Tie as tie
+use Rattle.page.proofs.inner.free_bit.Statement.{statement}
+use Rattle.page.proofs.inner.free_bit.Tie as tie
 
 returns : tie.Need-returns
 returns c = (bit-past _ _ (c .if1 .taken), omega arith)

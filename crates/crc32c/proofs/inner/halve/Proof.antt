@@ -4,23 +4,23 @@ use Prim.Native.Nat.{_+_, _-_, _≤_}
 use native.Mathlib.Omega.{arith}
 use lib.Bits.{bitXor}
 use lib.ListN.{length, getD, length-set}
-use Rattle.crc32c.specs.Sparse.{pull, Filled, Room}
-use Rattle.crc32c.proofs.Sparse.{nearer, zeros-at}
+use Rattle.crc32c.specs.Sparse.{lastBytes, pull, Filled, Room}
+use Rattle.crc32c.proofs.Sparse.{halved, zeros-at}
 use Rattle.crc32c.proofs.Stores.{Below, Above, below-more, above-more, filled-none, filled-more, room-set, room-zeros, byte-xor, pull-lt}
-use Rattle.crc32c.proofs.inner.near.Statement.{statement}
-use Rattle.crc32c.proofs.inner.near.Tie as tie
+use Rattle.crc32c.proofs.inner.halve.Statement.{statement}
+use Rattle.crc32c.proofs.inner.halve.Tie as tie
 
 abbrev Inv-fill : tie.InvT-fill
-Inv-fill s o p₀ j₀ p j = (j ≤ 224) × Filled 1 j p₀ s p × Above p (λ m. 0) (j + 209) × Room 592 p
+Inv-fill s o p₀ j₀ p j = (j ≤ lastBytes) × Filled 1 j p₀ s p × Above p (λ m. 0) (j + 209) × Room 592 p
 
 abbrev μ-fill : tie.MeasureT-fill
-μ-fill s o p₀ j₀ p j = 224 - j
+μ-fill s o p₀ j₀ p j = lastBytes - j
 
 abbrev Inv-mix : tie.InvT-mix
-Inv-mix s o₀ p j i₀ o i = (i ≤ 224) × Below o (λ m. bitXor (getD s (m + 224) 0) (bitXor (getD p (m + 368) 0) (bitXor (getD p (m + 278) 0) (bitXor (getD p (m + 263) 0) (bitXor (getD p (m + 238) 0) (getD p (m + 224) 0)))))) i × (length o ≡ 224)
+Inv-mix s o₀ p j i₀ o i = (i ≤ lastBytes) × Below o (λ m. bitXor (getD s (m + lastBytes) 0) (bitXor (getD p (m + 368) 0) (bitXor (getD p (m + 278) 0) (bitXor (getD p (m + 263) 0) (bitXor (getD p (m + 238) 0) (getD p (m + lastBytes) 0)))))) i × (length o ≡ lastBytes)
 
 abbrev μ-mix : tie.MeasureT-mix
-μ-mix s o₀ p j i₀ o i = 224 - i
+μ-mix s o₀ p j i₀ o i = lastBytes - i
 
 fill-holds : tie.Need-fill-holds Inv-fill μ-fill Inv-mix μ-mix
 fill-holds c =
@@ -41,7 +41,7 @@ fill-again c =
 mix-again : tie.Need-mix-again Inv-fill μ-fill Inv-mix μ-mix
 mix-again c =
     let l = c .before .before .mix in
-    let z : length (l .o) ≡ 224 = l .inv .2 in
+    let z : length (l .o) ≡ lastBytes = l .inv .2 in
     (omega arith, below-more (l .o) _ (l .i) _ (omega arith) refl (l .inv .1), simp length-set z)
 
 returns : tie.Need-returns Inv-fill μ-fill Inv-mix μ-mix
@@ -49,10 +49,10 @@ returns c =
     let l = c .before .mix in
     let k = c .before .before .before .fill in
     let e = c .before .before .before .before in
-    let j : k .j ≡ 224 = omega arith in
-    nearer _ (k .p) (l .o) (k .inv .3) (e .pre .1 .size) (l .inv .2) (rw j at (k .inv .1)) (λ m b. k .inv .2 m (omega arith)) (λ m b. l .inv .1 m (omega arith))
+    let j : k .j ≡ lastBytes = omega arith in
+    (l .inv .2, halved _ (k .p) (l .o) (k .inv .3) (e .pre .1 .size) (l .inv .2) (rw j at (k .inv .1)) (λ m b. k .inv .2 m (omega arith)) (λ m b. l .inv .1 m (omega arith)))
 
-pub near-spec : {M : Type 1} → statement M
-near-spec =
+pub halve-spec : {M : Type 1} → statement M
+halve-spec =
     tie.close
     (tie.spec Inv-fill μ-fill Inv-mix μ-mix fill-holds (λ c. search needs) (λ c. search needs) (λ c. search needs) (λ c. search needs) (λ c. search needs) (λ c. search needs) (λ c. search needs) (λ c. search needs) (λ c. search needs) (λ c. search needs) (λ c. search needs) (λ c. search needs) (λ c. search needs) (λ c. search needs) fill-again (λ c. search needs) (λ c. search needs) (λ c. search needs) (λ c. search needs) (λ c. search needs) (λ c. search needs) (λ c. search needs) (λ c. search needs) (λ c. search needs) (λ c. search needs) (λ c. search needs) (λ c. search needs) (λ c. search needs) (λ c. search needs) (λ c. search needs) (λ c. search needs) mix-again returns)
