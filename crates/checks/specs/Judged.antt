@@ -1,4 +1,4 @@
--- What the walks over a log find before recovery.
+-- Internal: what the walks over a log find before recovery.
 use Prim.Native.Nat.{ℕ, zero, _+_, _*_, _<_}
 use mathlib.Core.Path.{_≡_}
 use mathlib.Core.Bool.{Bool}

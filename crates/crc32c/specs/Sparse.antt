@@ -1,4 +1,4 @@
--- A sparse multiple of the polynomial: with y for one byte, y^209 + y^144 + y^54 + y^39 + y^14 + 1 is 0 in the register, and so is the same with
+-- Internal: a sparse multiple of the polynomial: with y for one byte, y^209 + y^144 + y^54 + y^39 + y^14 + 1 is 0 in the register, and so is the same with
 -- every exponent times 2. So a byte may be left out where it goes into five later bytes instead, and long runs are shortened without a table.
 use mathlib.Core.Path.{_≡_}
 use mathlib.Core.List.{List}

@@ -1,4 +1,4 @@
--- Sixteen tables in a row, each of 256 entries: entry k of table j is what the byte k leaves in the register after itself and j more bytes.
+-- Internal: sixteen tables in a row, each of 256 entries: entry k of table j is what the byte k leaves in the register after itself and j more bytes.
 use mathlib.Core.Path.{_≡_}
 use mathlib.Core.List.{List}
 use Prim.Native.Nat.{ℕ, _+_, _*_, _/_, _%_, _<_}

@@ -1,4 +1,4 @@
--- Clashes, by the newest change on a slot.
+-- Internal: clashes, by the newest change on a slot.
 use Prim.Native.Nat.{ℕ, zero, suc, _+_}
 use mathlib.Core.List.{List, [], _∷_, _++_}
 use mathlib.Core.Bool.{Bool, true, false, not}

@@ -1,4 +1,4 @@
--- The first walk over a log: up to its end or to the first entry that breaks another rule than that on clashes.
+-- Internal: the first walk over a log: up to its end or to the first entry that breaks another rule than that on clashes.
 use Prim.Native.Nat.{ℕ, zero}
 use mathlib.Core.Path.{_≡_}
 use mathlib.Core.List.{List, []}

@@ -1,4 +1,4 @@
--- The order rules but for clashes, by what a walk over the log keeps: the state of a transaction is told by its newest entry.
+-- Internal: the order rules but for clashes, by what a walk over the log keeps: the state of a transaction is told by its newest entry.
 use Prim.Native.Nat.{ℕ, zero, suc, _+_}
 use mathlib.Core.List.{List, [], _∷_, _++_}
 use mathlib.Core.Bool.{Bool, true, false}

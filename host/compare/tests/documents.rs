@@ -294,6 +294,28 @@ fn every_name_is_there() {
     assert!(lacking.is_empty(), "\n{}", lacking.join("\n"));
 }
 
+/// The files of specs that README names, as `page Layout`, are there, and none says that it is internal.
+#[test]
+fn a_reader_believes_no_internal_file() {
+    let readme = std::fs::read_to_string(top().join("README.md")).expect("README.md");
+    let mut named = 0;
+    for text in readme
+        .lines()
+        .flat_map(|line| line.split('`').skip(1).step_by(2))
+    {
+        let Some((of, file)) = text.split_once(' ') else {
+            continue;
+        };
+        if top().join("crates").join(of).is_dir() {
+            let path = format!("crates/{of}/specs/{file}.antt");
+            let specs = std::fs::read_to_string(top().join(&path)).expect(&path);
+            assert!(!specs.starts_with("-- Internal"), "{path}");
+            named += 1;
+        }
+    }
+    assert!(named > 20);
+}
+
 /// One name of each kind, and beside it what differs by a letter.
 #[test]
 fn a_misspelt_name_is_found() {
