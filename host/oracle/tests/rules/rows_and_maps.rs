@@ -28,7 +28,7 @@ fn rows_from_the_pages_and_from_the_log() {
         source,
         offset,
         length,
-        pad: 0x0001_0101_0101_0101 * fill,
+        pad: 0x0001_0101_0101_0101_u64 * fill,
         ..Row::default()
     };
 
