@@ -99,10 +99,11 @@ void lq_recover(uint64_t magic, uint64_t floor, uint8_t *pages, size_t pages_len
 enum lq_source { LQ_FROM_NOWHERE = 0, LQ_FROM_LOG = 1, LQ_FROM_PAGES = 2 };
 
 /* One row as recovery would leave it, without recovering. Refuses as lq_recover does but for 10, then 15.
- * out: 0 number, 1 place, 2 filled (1 or 0), 3 xmin, 4 xmax, 5 deleted (1 or 0), 6 source of the payload, 7 its offset in
- *      the log or the pages, 8 its length. An empty slot, or a page not of type 1, is all 0. */
+ * out: 0 number, 1 place, 2 filled (1 or 0), 3 xmin, 4 xmax, 5 deleted (1 or 0), 6 source of the payload: the log where it
+ *      changes the slot, else the pages, 7 its offset there, 8 its length, 9 the 7 pad bytes of the row header. An empty
+ *      slot, or a page not of type 1, is all 0. */
 void lq_read_row(uint64_t magic, uint64_t floor, const uint8_t *pages, size_t pages_len, const uint8_t *log,
-                 size_t log_len, uint64_t page, uint16_t slot, uint64_t out[9]);
+                 size_t log_len, uint64_t page, uint16_t slot, uint64_t out[10]);
 
 /* The first row with deleted byte 0 on a page of type 1, at or after a slot of a page. Refuses 1 and 11: each call
  * checks every page.

@@ -1,7 +1,6 @@
 -- The numbers that each function of the C interface writes, in the order of include/lumbraquay.h.
 use Prim.Native.Nat.{ℕ}
 use mathlib.Core.List.{List, [], _∷_}
-use mathlib.Core.Path.{_≡_}
 use mathlib.Core.Bool.{Bool}
 use Rattle.wal.specs.Read.{headerFault, readAt, found, readBefore}
 use Rattle.wal.specs.Reader.{openedAt, placeAfter, placeBefore}
@@ -11,8 +10,8 @@ use Rattle.wal.specs.declared.Before.{Before}
 use Rattle.wal.specs.declared.Before.the-variants.{Found, Nothing}
 use Rattle.rules.specs.declared.Answer.{Answer}
 use Rattle.rules.specs.Order.{one}
-use Rattle.recovery.specs.declared.Located.{Located}
-use Rattle.recovery.specs.Spot.{Lying}
+use Rattle.rules.specs.Row.{locatedOf}
+use Rattle.rules.specs.declared.Located.{Located}
 use Rattle.page.specs.Fault.{verdictOf}
 use Rattle.page.specs.Rows.{nextRow}
 use Rattle.page.specs.FreeMap.{mapVerdict, freeCount}
@@ -91,14 +90,11 @@ answerNumbers a =
     a .number ∷ a .place ∷ a .«last_lsn» .0 ∷ a .tail ∷ a .committed ∷ a .«rolled_back» ∷ a .unended
     ∷ a .«changes_committed» ∷ a .«changes_rolled_back» ∷ a .«changes_unended» ∷ a .«changes_zero» ∷ a .rewritten ∷ []
 
--- lq_read_row: number, place, filled, xmin, xmax, deleted, source of the payload, its offset there, its length
+-- lq_read_row: number, place, filled, xmin, xmax, deleted, source of the payload, its offset there, its length, the pad bytes
 abbrev pub locatedNumbers : Located → List ℕ
 locatedNumbers l =
     l .head .number ∷ l .head .place ∷ one (l .head .filled) ∷ l .head .xmin .0 ∷ l .head .xmax .0 ∷ l .head .deleted
-    ∷ l .source ∷ l .offset ∷ l .length ∷ []
+    ∷ l .source ∷ l .offset ∷ l .length ∷ l .head .pad ∷ []
 
--- the numbers of the row, located as `Lying` says
-pub record RowWritten (magic floor : ℕ) (pages log : List ℕ) (i k : ℕ) (out : List ℕ) : Type 0 where
-  pub located : Located
-  pub lying : Lying magic floor pages log i k located
-  pub is : out ≡ locatedNumbers located
+unfoldable pub readRowNumbers : ℕ → ℕ → List ℕ → List ℕ → ℕ → ℕ → List ℕ
+readRowNumbers magic floor pages log page slot = locatedNumbers (locatedOf magic floor pages log page slot)

@@ -4,13 +4,13 @@ ghost use Rattle.crc32c.specs.Crc.{crc32c as crcOf};
 ghost use Rattle.wal.specs.Read.{found};
 ghost use Rattle.wal.specs.declared.Before.the-variants.{Found, Nothing};
 ghost use Rattle.page.specs.FreeMap.{mapAfter};
-ghost use Rattle.capi.specs.Answers.{openNumbers, stepNumbers, kindForward, kindBackward, forwardNumbers, backwardNumbers, verifyNumbers, rowNumbers, nextVisibleNumbers, freeMapNumbers, answerNumbers, locatedNumbers, RowWritten};
+ghost use Rattle.capi.specs.Answers.{openNumbers, stepNumbers, kindForward, kindBackward, forwardNumbers, backwardNumbers, verifyNumbers, rowNumbers, nextVisibleNumbers, freeMapNumbers, answerNumbers, locatedNumbers, readRowNumbers};
 ghost use Rattle.recovery.specs.Flat.{recoverFlat};
 use endian::Lsn;
 use endian::PageNumber;
 use page::NextRow;
-use recovery::Located;
 use rules::Answer;
+use rules::Located;
 use wal::Before;
 use wal::EntryView;
 use wal::Reading;
@@ -194,7 +194,7 @@ pub extern "C" fn lq_recover(
 }
 
 // The numbers of a row that is located.
-fn located_numbers(l: Located) -> [u64; 9]
+fn located_numbers(l: Located) -> [u64; 10]
     ensures { λ r. ⌜ r ≡ locatedNumbers l ⌝ }
 {
     let h = l.head;
@@ -210,6 +210,7 @@ fn located_numbers(l: Located) -> [u64; 9]
         l.source,
         l.offset,
         l.length,
+        h.pad,
     ]
 }
 
@@ -222,9 +223,9 @@ pub extern "C" fn lq_read_row(
     log: &[u8],
     page: u64,
     slot: u16,
-    out: &mut [u64; 9],
+    out: &mut [u64; 10],
 )
-    ensures { λ _. ⌜ RowWritten magic floor (now (pages .entry)) (now (log .entry)) page slot (now (out .exit)) ⌝ }
+    ensures { λ _. ⌜ now (out .exit) ≡ readRowNumbers magic floor (now (pages .entry)) (now (log .entry)) page slot ⌝ }
 {
     let l = recovery::locate_row(magic, Lsn(floor), pages, log, PageNumber(page), slot);
     *out = located_numbers(l);

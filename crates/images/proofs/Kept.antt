@@ -1,6 +1,6 @@
 -- What a slot of a good Data page holds stands in the page. Assumes nothing.
 use Prim.Native.Nat.{ℕ, _+_, _≤_, _<_}
-use mathlib.Core.Path.{_≡_, sym, ap₂, _∙_}
+use mathlib.Core.Path.{_≡_, refl, sym, ap, ap₂, _∙_}
 use mathlib.Core.Logic.{inl, inr}
 use mathlib.Core.List.{List}
 use native.Mathlib.Omega.{arith}
@@ -10,7 +10,7 @@ use Rattle.page.specs.Layout.{bodyBytes, countOf, bodyOf, slotOff, slotLen, slo
 use Rattle.page.specs.Good.{SlotGood}
 use Rattle.page.proofs.Slots.{slot-past, slot-in}
 use Rattle.images.specs.declared.Image.{Image}
-use Rattle.images.specs.Tuples.{paged, InPage}
+use Rattle.images.specs.Tuples.{paged, InPage, PagedAt}
 use Rattle.images.specs.Page.{Sound}
 use Rattle.images.proofs.Standing.{in-page}
 
@@ -23,11 +23,12 @@ pub count-small : {p : List ℕ} → Sound p → countOf p ≤ 4080
 count-small d = omega (arith, d .good .start, d .good .startEnd, d .good .end)
 
 module _ {p : List ℕ} (d : Sound p) (k : ℕ) where
-  pub kept-none : {m : Image} → countOf p ≤ k → m ≡ paged 64 0 → InPage p m (slotAt p k)
-  kept-none l e = in-page 64 0 (omega (arith, d .size)) (omega arith) e (sym (slot-past p k l))
+  pub kept-none : {m : Image} → countOf p ≤ k → m ≡ paged 64 0 → InPage p m (slotAt p k) × PagedAt p k m
+  kept-none l e = (in-page 64 0 (omega (arith, d .size)) (omega arith) e (sym (slot-past p k l)), rw e (record { paged = refl; at = λ n. absurd (n refl) }))
 
-  pub kept-some : {m : Image} {o n : ℕ} → k < countOf p → o ≡ slotOff (bodyOf p) k → n ≡ slotLen (bodyOf p) k → m ≡ paged (64 + o) n → InPage p m (slotAt p k)
+  pub kept-some : {m : Image} {o n : ℕ} → k < countOf p → o ≡ slotOff (bodyOf p) k → n ≡ slotLen (bodyOf p) k → m ≡ paged (64 + o) n → InPage p m (slotAt p k) × PagedAt p k m
   kept-some {m} {o} {n} l eo en e =
-      let w = slot-within (d .good .slots k l) in
-      in-page (64 + o) n (omega (arith, d .size)) (omega arith) e
-      (sym (part-drop o n 64 p) ∙ ap₂ (λ (a b : ℕ). part a b (bodyOf p)) eo en ∙ sym (slot-in p k l))
+      let w = slot-within (d .good .slots k l) in (
+        in-page (64 + o) n (omega (arith, d .size)) (omega arith) e (sym (part-drop o n 64 p) ∙ ap₂ (λ (a b : ℕ). part a b (bodyOf p)) eo en ∙ sym (slot-in p k l)),
+        rw e (record { paged = refl; at = λ _. ap (λ (x : ℕ). 64 + x) eo }),
+      )

@@ -6,7 +6,11 @@ use mathlib.Core.List.{List}
 use lib.ListN.{length}
 use Rattle.endian.specs.Pick.{pick}
 use Rattle.endian.specs.Numbers.{part}
-use Rattle.rules.specs.Shape.{stamped}
+use Rattle.wal.specs.Entry.{entryOf}
+use Rattle.page.specs.Layout.{headBytes, bodyOf, slotOff}
+use Rattle.rules.specs.Shape.{stamped, beforeOf, afterOf}
+use Rattle.rules.specs.Row.{Standing, inLog, beforeAt, afterAt, standingBy}
+use Rattle.decide.specs.Decide.{won}
 use Rattle.images.specs.declared.Image.{Image}
 
 -- the bytes that an image names in its source, stamped where they are to be
@@ -45,3 +49,26 @@ pub record InLog (s : List ℕ) (m : Image) (t : List ℕ) : Type 0 where
 
 pub record InPage (p : List ℕ) (m : Image) (t : List ℕ) : Type 0 where
   pub stood : (s : List ℕ) → Stood s p m t
+
+-- the image m stands at place p of the log
+pub record LoggedAt (m : Image) (p : ℕ) : Type 0 where
+  pub logged : m .logged ≡ true
+  pub at : m .place ≡ p
+
+-- the image m is what slot k of the page p holds; one without bytes may stand anywhere
+pub record PagedAt (p : List ℕ) (k : ℕ) (m : Image) : Type 0 where
+  pub paged : m .logged ≡ false
+  pub at : (m .length ≡ 0 → ⊥) → m .place ≡ headBytes + slotOff (bodyOf p) k
+
+-- what a slot that has v gets by its cell c, and where that stands
+abbrev pub imageWon : List ℕ → ℕ → List ℕ → List ℕ
+imageWon s = won (λ v. beforeOf (entryOf s v)) (λ v. afterOf (entryOf s v)) s
+
+abbrev pub standingWon : List ℕ → ℕ → Standing → Standing
+standingWon = won (λ v. inLog (beforeAt v)) (λ v. inLog (afterAt v))
+
+-- the image m that slot k of page i, the page p, is to hold stands where the rules say
+pub record Placed (s p : List ℕ) (i k : ℕ) (m : Image) : Type 0 where
+  pub won : m .logged ≡ true → (d : Standing) → standingBy s i k d ≡ inLog (m .place)
+  pub kept : m .logged ≡ false → (d : Standing) → standingBy s i k d ≡ d
+  pub at : m .logged ≡ false → (m .length ≡ 0 → ⊥) → m .place ≡ headBytes + slotOff (bodyOf p) k

@@ -5,13 +5,14 @@ ghost use mathlib.Core.List.{List};
 ghost use Prim.Native.Nat.{ℕ, _+_, _-_, _/_, _≤_, _<_, max};
 ghost use lib.ListN.{length, getD};
 ghost use Rattle.wal.specs.Walk.{entries};
-ghost use Rattle.wal.specs.Prefix.{Stands, said};
+ghost use Rattle.wal.specs.Prefix.{Stands, entryIn, said};
 ghost use Rattle.page.specs.Layout.{pageBytes, countOf, slotAt};
 ghost use Rattle.rules.specs.Shape.{isChange, isShaped, beforeOf, afterOf};
 ghost use Rattle.rules.specs.Mend.{committed, decided};
 ghost use Rattle.fates.specs.Fate.{Ordered};
-ghost use Rattle.decide.specs.Decide.{won, ChangeAt};
-ghost use Rattle.images.specs.Tuples.{logged, deleted, paged, InLog, InPage, Stood};
+ghost use Rattle.rules.specs.Row.{Standing, inLog, beforeAt, afterAt};
+ghost use Rattle.decide.specs.Decide.{ChangeAt};
+ghost use Rattle.images.specs.Tuples.{logged, deleted, paged, InLog, InPage, Stood, LoggedAt, PagedAt, imageWon, standingWon, Placed};
 ghost use Rattle.images.specs.Page.{PageCells, Sound};
 use crate::Image;
 use endian::TxnNumber;
@@ -65,10 +66,11 @@ fn before_image(log: &[u8], at: usize) -> Image
     requires { ⌜ Stands (now log) at ⌝ }
     requires { ⌜ (isChange (said (now log) at) ≡ true) × (isShaped (said (now log) at) ≡ true) ⌝ }
     ensures { λ r. ⌜ InLog (now (log .entry)) r (beforeOf (said (now (log .entry)) at)) ⌝ }
+    ensures { λ r. ⌜ LoggedAt r (beforeAt (entryIn (now (log .entry)) at)) ⌝ }
 {
     let e = standing(log, at);
     if e.kind == 4 {
-        return in_log(at, 0);
+        return in_log(at + 41, 0);
     }
     if e.kind == 5 {
         return in_log(at + 41, e.old_len);
@@ -81,6 +83,7 @@ fn after_image(log: &[u8], at: usize) -> Image
     requires { ⌜ Stands (now log) at ⌝ }
     requires { ⌜ (isChange (said (now log) at) ≡ true) × (isShaped (said (now log) at) ≡ true) ⌝ }
     ensures { λ r. ⌜ InLog (now (log .entry)) r (afterOf (said (now (log .entry)) at)) ⌝ }
+    ensures { λ r. ⌜ LoggedAt r (afterAt (entryIn (now (log .entry)) at)) ⌝ }
 {
     let e = standing(log, at);
     if e.kind == 4 {
@@ -97,7 +100,8 @@ fn after_image(log: &[u8], at: usize) -> Image
 pub fn won_image(log: &[u8], c: u32) -> Image
     requires { ⌜ Ordered (now log) ⌝ }
     requires { ⌜ ChangeAt (now log) (c / 2) ⌝ }
-    ensures { λ r. ⌜ ((v : List ℕ) → InLog (now (log .entry)) r (won (now (log .entry)) c v)) ⌝ }
+    ensures { λ r. ⌜ ((v : List ℕ) → InLog (now (log .entry)) r (imageWon (now (log .entry)) c v)) ⌝ }
+    ensures { λ r. ⌜ (r .logged ≡ true) × ((d : Standing) → standingWon (now (log .entry)) c d ≡ inLog (r .place)) ⌝ }
 {
     let at = (c / 2) as usize;
     if c % 2 == 1 {
@@ -110,6 +114,7 @@ pub fn won_image(log: &[u8], c: u32) -> Image
 pub fn kept_image(page: &[u8], k: usize) -> Image
     requires { ⌜ Sound (now page) ⌝ }
     ensures { λ r. ⌜ InPage (now (page .entry)) r (slotAt (now (page .entry)) k) ⌝ }
+    ensures { λ r. ⌜ PagedAt (now (page .entry)) k r ⌝ }
 {
     if count(page) <= k {
         return in_page(HEAD_BYTES, 0);
@@ -156,6 +161,7 @@ pub fn slot_image(
     requires { ⌜ PageCells (now log) i (now starts) (now cells) ⌝ }
     requires { ⌜ Sound (now page) ⌝ }
     ensures { λ r. ⌜ Stood (now (log .entry)) (now (page .entry)) r (decided (committed (entries (now (log .entry)))) (entries (now (log .entry))) i k (slotAt (now (page .entry)) k)) ⌝ }
+    ensures { λ r. ⌜ Placed (now (log .entry)) (now (page .entry)) i k r ⌝ }
 {
     if top_of(starts, i) <= k {
         return kept_image(page, k);

@@ -107,5 +107,8 @@ xmaxOf t = numberAt 8 8 t
 abbrev pub deletedOf : List ℕ → ℕ
 deletedOf t = numberAt 1 16 t
 
+abbrev pub padOf : List ℕ → ℕ
+padOf t = numberAt 7 17 t
+
 abbrev pub payloadOf : List ℕ → List ℕ
 payloadOf t = drop rowHead t

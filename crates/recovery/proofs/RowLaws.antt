@@ -5,7 +5,7 @@ use mathlib.Core.Bool.{Bool, true, false}
 use mathlib.Core.Logic.{_⊎_, inl, inr}
 use mathlib.Core.List.{List, [], _∷_}
 use native.Mathlib.Omega.{arith}
-use lib.ListN.{length, take, drop}
+use lib.ListN.{length, take, drop, length-drop}
 use lib.Dec.{eqb}
 use borrow.Author.Tests.{eq-eqb, ne-eqb, eqb-true, eqb-false}
 use Rattle.endian.specs.Pick.{pick}
@@ -14,14 +14,13 @@ use Rattle.endian.proofs.Places.{drop-part}
 use Rattle.page.specs.Layout.{payloadOf}
 use Rattle.refusals.specs.Verdict.{verdict}
 use Rattle.refusals.specs.declared.Verdict.{Verdict}
-use Rattle.rules.specs.Row.{rowVerdict, tupleOf, headOf, refusedRow, rowOf, rowPayload}
+use Rattle.rules.specs.Row.{rowVerdict, tupleOf, headOf, refusedRow, rowOf, rowTuple, rowPayload, inLog, inPages, standingOf, locatedAt, locatedOf}
 use Rattle.rules.specs.declared.RowHead.{RowHead}
-use Rattle.rules.proofs.Tests.{false-true}
+use Rattle.rules.specs.declared.Located.{Located}
 use Rattle.images.specs.declared.Image.{Image}
 use Rattle.images.specs.Tuples.{Lies, tupleAt, tupleIn}
 use Rattle.recovery.specs.declared.Spot.{Spot}
-use Rattle.recovery.specs.declared.Located.{Located}
-use Rattle.recovery.specs.Spot.{locatedBy, Spotted, Lying}
+use Rattle.recovery.specs.Spot.{standingIn, locatedBy, Spotted}
 use Rattle.recovery.proofs.Heads.{stamped-payload, tuple-logged, tuple-paged, tuple-empty, head-logged, head-paged, image-long}
 
 -- ---- the payload of an image
@@ -75,6 +74,19 @@ located-head head logged place n e = ap (λ (x : Located). x .head) e ∙ go (eq
     go true = refl
     go false = refl
 
+-- what stands somewhere, located
+located-long : (head : RowHead) (m : Image) (t : List ℕ) (n : ℕ) → length t ≡ n → 24 ≤ n
+    → record { head = head; source = pick (m .logged) 1 2; offset = m .place + 24; length = n - 24 } ≡ locatedAt head (standingIn m) t
+located-long head m [] n e l = absurd (omega arith)
+located-long head m (b ∷ t) n e l = go (m .logged)
+  where
+    payload : n - 24 ≡ length (payloadOf (b ∷ t))
+    payload = ap (λ (x : ℕ). x - 24) (sym e) ∙ sym (length-drop 24 (b ∷ t))
+
+    go : (c : Bool) → record { head = head; source = pick c 1 2; offset = m .place + 24; length = n - 24 } ≡ locatedAt head (pick c (inLog (m .place)) (inPages (m .place))) (b ∷ t)
+    go true = ap (λ (x : ℕ). record { head = head; source = 1; offset = m .place + 24; length = x }) payload
+    go false = ap (λ (x : ℕ). record { head = head; source = 2; offset = m .place + 24; length = x }) payload
+
 -- ---- a row
 module _ {magic floor : ℕ} {pages log : List ℕ} {i k : ℕ} {r : Spot} (s : Spotted magic floor pages log i k r) where
   number-is : rowVerdict magic floor pages log i .number ≡ r .number
@@ -89,34 +101,19 @@ module _ {magic floor : ℕ} {pages log : List ℕ} {i k : ℕ} {r : Spot} (s : 
       go true e = ap headOf (s .stood (eqb-true (r .number) 0 e) .is)
       go false e = refl
 
+  row-tuple : tupleIn log pages (r .image) ≡ rowTuple magic floor pages log i k
+  unfolding rowTuple
+  row-tuple = rw (number-is) (go (eqb (r .number) 0) refl)
+    where
+      go : (b : Bool) → eqb (r .number) 0 ≡ b → tupleIn log pages (r .image) ≡ pick b (tupleOf pages log i k) []
+      go true e = s .stood (eqb-true (r .number) 0 e) .is
+      go false e = tuple-empty log pages (r .image) (s .lies) (ap (λ (m : Image). m .length) (s .none (eqb-false (r .number) 0 e)))
+
   pub row-payload : payloadOf (tupleIn log pages (r .image)) ≡ rowPayload magic floor pages log i k
   unfolding rowPayload
-  row-payload = rw (number-is) (go (eqb (r .number) 0) refl)
-    where
-      go : (b : Bool) → eqb (r .number) 0 ≡ b → payloadOf (tupleIn log pages (r .image)) ≡ pick b (payloadOf (tupleOf pages log i k)) []
-      go true e = ap payloadOf (s .stood (eqb-true (r .number) 0 e) .is)
-      go false e = let z = s .none (eqb-false (r .number) 0 e) in payload-none log pages (r .image) (s .lies) (ap (λ (m : Image). m .length) z)
+  row-payload = ap payloadOf row-tuple
 
-  -- without a tuple: unfilled
-  module _ (z : r .image .length ≡ 0) where
-    filled-none : rowOf magic floor pages log i k .filled ≡ false
-    filled-none = rw (← row-head, tuple-empty log pages (r .image) (s .lies) z) (go (eqb (r .number) 0))
-      where
-        go : (b : Bool) → pick b (headOf []) (refusedRow (verdict (r .number) (r .place))) .filled ≡ false
-        go true = refl
-        go false = refl
-
-    lying-none : Lying magic floor pages log i k (record { head = rowOf magic floor pages log i k; source = 0; offset = 0; length = 0 })
-    lying-none =
-        record {
-          head = refl;
-          payload = sym (payload-none log pages (r .image) (s .lies) z) ∙ row-payload;
-          within = omega arith;
-          some = λ f. false-true (sym filled-none ∙ f);
-          none = λ f. (refl, refl, refl);
-        }
-
-  -- with a tuple: filled
+  -- with a tuple: it is not refused
   module _ (long : 24 ≤ r .image .length) where
     some : r .image .length ≡ 0 → ⊥
     some z = omega arith
@@ -128,39 +125,20 @@ module _ {magic floor : ℕ} {pages log : List ℕ} {i k : ℕ} {r : Spot} (s : 
         go true e = eqb-true (r .number) 0 e
         go false e = absurd (some (ap (λ (x : Image). x .length) (s .none (eqb-false (r .number) 0 e))))
 
-    head-true : (t : List ℕ) → 24 ≤ length t → headOf t .filled ≡ true
-    head-true [] h = absurd (omega arith)
-    head-true (b ∷ t) h = refl
+    tuple-long : length (rowTuple magic floor pages log i k) ≡ r .image .length
+    tuple-long = let d = s .stood zero-number in ap length (sym row-tuple ∙ d .is) ∙ sym (d .long)
 
-    filled-some : rowOf magic floor pages log i k .filled ≡ true
-    filled-some =
-        let d = s .stood zero-number in
-        rw (← row-head, eq-eqb (r .number) 0 zero-number, d .is) (head-true (tupleOf pages log i k) (omega (arith, d .long)))
-
-    lying-some : (b : Bool) → r .image .logged ≡ b → Lying magic floor pages log i k (record { head = rowOf magic floor pages log i k; source = pick b 1 2; offset = r .image .place + 24; length = r .image .length - 24 })
-    lying-some true e =
-        let h = head-logged log pages (r .image) (s .lies) (s .whole) some e in
-        record {
-          head = refl;
-          payload = sym (payload-logged log pages (r .image) (s .lies) (s .whole) some e) ∙ row-payload;
-          within = omega (arith, h .0);
-          some = λ f. inl refl;
-          none = λ f. false-true (sym f ∙ filled-some);
-        }
-    lying-some false e =
-        let h = head-paged log pages (r .image) (s .lies) (s .whole) some e in
-        record {
-          head = refl;
-          payload = sym (payload-paged log pages (r .image) (s .lies) (s .whole) some e) ∙ row-payload;
-          within = omega (arith, h .0);
-          some = λ f. inr refl;
-          none = λ f. false-true (sym f ∙ filled-some);
-        }
-
-  pub row-lying : {l : Located} → l ≡ locatedBy (l .head) (r .image .logged) (r .image .place) (r .image .length)
-      → l .head ≡ pick (eqb (r .number) 0) (headOf (tupleIn log pages (r .image))) (refusedRow (verdict (r .number) (r .place))) → Lying magic floor pages log i k l
-  row-lying {l} e h = rw (e ∙ ap (λ (x : RowHead). locatedBy x (r .image .logged) (r .image .place) (r .image .length)) (h ∙ row-head)) (go (s .whole))
+  pub row-located : {l : Located} → l ≡ locatedBy (l .head) (r .image .logged) (r .image .place) (r .image .length)
+      → l .head ≡ pick (eqb (r .number) 0) (headOf (tupleIn log pages (r .image))) (refusedRow (verdict (r .number) (r .place))) → l ≡ locatedOf magic floor pages log i k
+  unfolding locatedOf
+  row-located {l} e h = e ∙ ap (λ (x : RowHead). locatedBy x (r .image .logged) (r .image .place) (r .image .length)) (h ∙ row-head) ∙ go (s .whole)
     where
-      go : (r .image .length ≡ 0) ⊎ (24 ≤ r .image .length) → Lying magic floor pages log i k (locatedBy (rowOf magic floor pages log i k) (r .image .logged) (r .image .place) (r .image .length))
-      go (inl z) = rw (eq-eqb (r .image .length) 0 z) (lying-none z)
-      go (inr b) = rw (ne-eqb (r .image .length) 0 (some b)) (lying-some b (r .image .logged) refl)
+      head : RowHead
+      head = rowOf magic floor pages log i k
+
+      go : (r .image .length ≡ 0) ⊎ (24 ≤ r .image .length)
+          → locatedBy head (r .image .logged) (r .image .place) (r .image .length) ≡ locatedAt head (standingOf pages log i k) (rowTuple magic floor pages log i k)
+      go (inl z) = rw (eq-eqb (r .image .length) 0 z, ← row-tuple, tuple-empty log pages (r .image) (s .lies) z)
+      go (inr b) =
+          rw (ne-eqb (r .image .length) 0 (some b), ← s .stands (zero-number b) (some b))
+          (located-long head (r .image) (rowTuple magic floor pages log i k) (r .image .length) (tuple-long b) b)

@@ -14,7 +14,7 @@ use Rattle.endian.specs.declared.TxnNumber.{TxnNumber}
 use Rattle.endian.proofs.Places.{part-take, part-drop}
 use Rattle.wal.specs.Read.{first}
 use Rattle.wal.specs.Walk.{entries}
-use Rattle.page.specs.Layout.{pageBytes, dataType, pagesIn, pageAt, typeOf, slotAt}
+use Rattle.page.specs.Layout.{pageBytes, headBytes, dataType, pagesIn, pageAt, typeOf, bodyOf, slotOff, slotAt}
 use Rattle.refusals.specs.Verdict.{verdict, accepted}
 use Rattle.page.specs.Good.{TupleGood}
 use Rattle.refusals.specs.declared.Verdict.{Verdict}
@@ -22,17 +22,17 @@ use Rattle.rules.specs.Shape.{stamped}
 use Rattle.rules.specs.Order.{neverFull}
 use Rattle.rules.specs.Mend.{committed, topOf, decided}
 use Rattle.rules.specs.Recover.{recoverVerdict}
-use Rattle.rules.specs.Row.{rowVerdict, tupleOf}
+use Rattle.rules.specs.Row.{rowVerdict, tupleOf, inPages, standingOf}
 use Rattle.rules.proofs.Slots.{decided-keeps}
 use Rattle.rules.proofs.Accepted.{slot-good}
 use Rattle.rules.proofs.ImageLaws.{tuple-images}
 use Rattle.rules.proofs.OrderLaws.{in-turn}
 use Rattle.fates.specs.Fate.{Ordered}
 use Rattle.images.specs.declared.Image.{Image}
-use Rattle.images.specs.Tuples.{Lies, Stood, tupleIn, paged}
+use Rattle.images.specs.Tuples.{Lies, Stood, tupleIn, paged, Placed}
 use Rattle.images.specs.Page.{Sound, Fitting}
 use Rattle.images.proofs.Deciding.{top-fits}
-use Rattle.recovery.specs.Spot.{shiftedBy, nowhereBy, Spotted}
+use Rattle.recovery.specs.Spot.{shiftedBy, nowhereBy, standingIn, Spotted}
 use Rattle.refusals.proofs.Then.{then-refused, then-accepted}
 
 -- ---- an image of a page, as one of the page area
@@ -55,6 +55,18 @@ module _ {s pages t : List ℕ} (i : ℕ) (room : length (pageAt i pages) ≡ pa
 
   pub stood-shifted : {m : Image} → Stood s (pageAt i pages) m t → Stood s pages (shiftedBy (i * pageBytes) m) t
   stood-shifted {m} h = stood-as (m .logged) (m .place) (m .length) (m .stamped) (m .by) h
+
+module _ {s : List ℕ} (pages : List ℕ) (i k : ℕ) where
+  placed-as : (l : Bool) (p n : ℕ) (st : Bool) (by : TxnNumber) → let m : Image = record { logged = l; place = p; length = n; stamped = st; by = by } in
+      Placed s (pageAt i pages) i k m → (shiftedBy (i * pageBytes) m .length ≡ 0 → ⊥) → standingIn (shiftedBy (i * pageBytes) m) ≡ standingOf pages s i k
+  unfolding standingOf
+  placed-as true p n st by h some = sym (h .won refl _)
+  placed-as false p n st by h some =
+      let x : p + i * pageBytes ≡ i * pageBytes + (headBytes + slotOff (bodyOf (pageAt i pages)) k) = omega (arith, h .at refl some) in
+      ap inPages x ∙ sym (h .kept refl _)
+
+  pub placed-shifted : {m : Image} → Placed s (pageAt i pages) i k m → (shiftedBy (i * pageBytes) m .length ≡ 0 → ⊥) → standingIn (shiftedBy (i * pageBytes) m) ≡ standingOf pages s i k
+  placed-shifted {m} h = placed-as (m .logged) (m .place) (m .length) (m .stamped) (m .by) h
 
 -- ---- what recovery would leave in a slot is nothing or has a row header
 
@@ -97,7 +109,8 @@ module _ (magic floor : ℕ) (pages log : List ℕ) (i k : ℕ) where
   tuple-some h = rw (eq-eqb (typeOf (pageAt i pages)) dataType h)
 
   pub spot-refused : (n at : ℕ) → (n ≡ 0 → ⊥) → verdict n at ≡ rowVerdict magic floor pages log i → Spotted magic floor pages log i k (nowhereBy n at)
-  spot-refused n at h e = record { verdict = e; stood = λ z. absurd (h z); none = λ z. refl; lies = none-lies log pages; whole = inl refl }
+  spot-refused n at h e =
+      record { verdict = e; stood = λ z. absurd (h z); stands = λ z. absurd (h z); none = λ z. refl; lies = none-lies log pages; whole = inl refl }
 
   -- a page not of type 1
   pub spot-none : accepted ≡ rowVerdict magic floor pages log i → (typeOf (pageAt i pages) ≡ dataType → ⊥) → Spotted magic floor pages log i k (nowhereBy 0 0)
@@ -105,17 +118,20 @@ module _ (magic floor : ℕ) (pages log : List ℕ) (i k : ℕ) where
       record {
         verdict = e;
         stood = λ z. rw (tuple-none h) (none-stood log pages);
+        stands = λ z n. absurd (n refl);
         none = λ z. refl;
         lies = none-lies log pages;
         whole = inl refl;
       }
 
   pub spot-found : accepted ≡ rowVerdict magic floor pages log i → typeOf (pageAt i pages) ≡ dataType → Ordered log → Sound (pageAt i pages) → {m : Image}
-      → Stood log pages m (decided (committed (entries log)) (entries log) i k (slotAt (pageAt i pages) k)) → Spotted magic floor pages log i k (record { number = 0; place = 0; image = m })
-  spot-found e d o g {m} h =
+      → Stood log pages m (decided (committed (entries log)) (entries log) i k (slotAt (pageAt i pages) k)) → ((m .length ≡ 0 → ⊥) → standingIn m ≡ standingOf pages log i k)
+      → Spotted magic floor pages log i k (record { number = 0; place = 0; image = m })
+  spot-found e d o g {m} h st =
       record {
         verdict = e;
         stood = λ z. rw (tuple-some d) h;
+        stands = λ z. st;
         none = λ z. absurd (z refl);
         lies = h .lies;
         whole = from (decided-good log (pageAt i pages) o g i k);

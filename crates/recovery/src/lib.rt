@@ -7,15 +7,15 @@ ghost use Rattle.rules.specs.Order.{count, isBegin};
 ghost use Rattle.rules.specs.Recover.{recoverOf};
 ghost use Rattle.fates.specs.Fate.{Ordered};
 ghost use Rattle.tally.specs.Flat.{flatAfter};
-ghost use Rattle.rules.specs.Row.{rowOf, rowPayload};
+ghost use Rattle.rules.specs.Row.{rowOf, rowPayload, locatedOf};
 ghost use Rattle.recovery.specs.Flat.{recoverFlat};
-ghost use Rattle.recovery.specs.Spot.{Lying};
 use endian::Lsn;
 use endian::PageNumber;
 use images::Image;
 use order::Walked;
 use records::inner::fill;
 use rules::Answer;
+use rules::Located;
 use rules::Record;
 use rules::RowHead;
 use tally::Tally;
@@ -36,14 +36,6 @@ pub struct Spot {
     pub number: u64,
     pub place: u64,
     pub image: Image,
-}
-
-// A row's header, and where its payload stands: source 1 the log, 2 the pages, 0 nowhere.
-pub struct Located {
-    pub head: RowHead,
-    pub source: u64,
-    pub offset: u64,
-    pub length: u64,
 }
 
 // Recovery: pages mended, the table filled with one record for each Begin, and the answer.
@@ -127,7 +119,7 @@ pub fn locate_row(
     page: PageNumber,
     slot: u16,
 ) -> Located
-    ensures { λ r. ⌜ Lying magic (floor .0) (now (pages .entry)) (now (log .entry)) (page .0) slot r ⌝ }
+    ensures { λ r. ⌜ r ≡ locatedOf magic (floor .0) (now (pages .entry)) (now (log .entry)) (page .0) slot ⌝ }
 {
     let s = row::find(magic, floor, pages, log, page.0, slot as usize);
     row::locate(log, pages, s)

@@ -140,6 +140,8 @@ fn show_head(h: RowHead) {
     number(b", xmin ", xmin.0);
     number(b", xmax ", xmax.0);
     number(b", deleted ", h.deleted as u64);
+    word(b", pad ");
+    io::print_hex(1, h.pad, 14);
 }
 
 // A row before recovery: header and payload, and both again with the place.

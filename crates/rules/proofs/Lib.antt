@@ -1,4 +1,5 @@
 pub mod Slots
+pub mod Standings
 pub mod Mended
 pub mod Accepted
 pub mod Tests

@@ -9,7 +9,7 @@ use Rattle.wal.specs.Entry.{Entry, commit}
 use Rattle.page.specs.Layout.{bodyBytes, dataType, magicOf, typeOf, countOf, idOf, lsnOf, reservedOf, slotAt}
 use Rattle.page.specs.Packed.{Head, packed, tab, roomFor}
 use Rattle.page.specs.Good.{Good}
-use Rattle.rules.specs.Shape.{Change, either, effectOn, topOn, lsnOn}
+use Rattle.rules.specs.Shape.{ChangeOf, Change, either, effectOn, topOn, lsnOn}
 use Rattle.rules.specs.Order.{any, is}
 
 -- a transaction counts as committed if it is 0 or its Commit is among the entries
@@ -19,12 +19,13 @@ committed es t = either (eqb t 0) (any (is commit t) es)
 -- ---- one slot
 
 -- the after-image of the last change by a transaction that c says committed; d where there is none
-abbrev pub lastAfter : (ℕ → Bool) → List Change → List ℕ → List ℕ
+abbrev pub lastAfter : {A : Type 0} → (ℕ → Bool) → List (ChangeOf A) → A → A
 lastAfter c [] d = d
 lastAfter c (x ∷ xs) d = lastAfter c xs (pick (c (x .by)) (x .after) d)
 
--- what a slot that holds v is to hold, by the changes on it: the after-image of the last that committed, else the before-image of the first; untouched, v
-abbrev pub winner : (ℕ → Bool) → List Change → List ℕ → List ℕ
+-- what a slot that holds v is to hold, by the changes on it: the after-image of the last that committed, else the before-image of the first; untouched, v.
+-- Said of images and, for reading a row, of where they stand
+abbrev pub winner : {A : Type 0} → (ℕ → Bool) → List (ChangeOf A) → A → A
 winner c [] v = v
 winner c (x ∷ xs) v = lastAfter c (x ∷ xs) (x .before)
 

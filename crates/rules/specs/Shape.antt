@@ -90,11 +90,15 @@ afterOf e = pick (eqb (e .kind) insert) (e .new) (pick (eqb (e .kind) delete) (s
 
 -- ---- effects: what an entry does to the slots of page i
 
--- a change of one slot: by which transaction, and the slot's tuple before and after it ([] for none)
-pub record Change : Type 0 where
+-- a change of one slot: by which transaction, and what stands for the slot's tuple before and after it
+pub record ChangeOf (A : Type 0) : Type 0 where
   pub by : ℕ
-  pub before : List ℕ
-  pub after : List ℕ
+  pub before : A
+  pub after : A
+
+-- with the tuples themselves ([] for none)
+abbrev pub Change : Type 0
+Change = ChangeOf (List ℕ)
 
 -- the entry changes page i
 unfoldable pub isOn : ℕ → Entry → Bool

@@ -26,7 +26,7 @@ pub struct Record {
     pub changes: u64,
 }
 
-// A row as recovery would leave it: refused or unfilled, its header is zero.
+// A row as recovery would leave it: refused or unfilled, its header is zero. Its 7 pad bytes are one number.
 pub struct RowHead {
     pub number: u64,
     pub place: u64,
@@ -34,4 +34,13 @@ pub struct RowHead {
     pub xmin: TxnNumber,
     pub xmax: TxnNumber,
     pub deleted: u8,
+    pub pad: u64,
+}
+
+// A row's header, and where its payload stands: source 1 the log, 2 the pages, 0 nowhere.
+pub struct Located {
+    pub head: RowHead,
+    pub source: u64,
+    pub offset: u64,
+    pub length: u64,
 }

@@ -35,6 +35,7 @@ pub fn row(of: oracle::Row) -> library::Row {
         source: of.source,
         offset: of.offset,
         length: of.length,
+        pad: of.pad,
     }
 }
 

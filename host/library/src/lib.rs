@@ -74,8 +74,9 @@ numbers! {
 }
 
 numbers! {
-    /// A row as recovery would leave it, and where its payload stands. An unfilled slot is all 0.
-    Row: 9 { number, place, filled, xmin, xmax, deleted, source, offset, length }
+    /// A row as recovery would leave it, where its payload stands, and the 7 pad bytes of its header. An unfilled slot
+    /// is all 0.
+    Row: 10 { number, place, filled, xmin, xmax, deleted, source, offset, length, pad }
 }
 
 numbers! {

@@ -5,8 +5,9 @@ use crate::examine::examine;
 use crate::page::{page_at, page_type, tuple_in_slot, DATA, ROW_HEADER_BYTES};
 use crate::{Refusal, PAGE_BYTES};
 
-/// The row header, and where the payload stands: source 1 is the lent log and 2
-/// the lent pages. Everything is 0 for an unfilled slot or a refusal.
+/// The row header, its 7 pad bytes last, and where the payload stands: source 1
+/// is the lent log, where it changes the slot, and 2 the lent pages. Everything
+/// is 0 for an unfilled slot or a refusal.
 #[derive(Clone, Copy, Debug, PartialEq, Eq, Default)]
 pub struct Row {
     pub number: u64,
@@ -18,6 +19,7 @@ pub struct Row {
     pub source: u64,
     pub offset: u64,
     pub length: u64,
+    pub pad: u64,
 }
 
 /// A filled row whose tuple stands at a place of the log or of the pages.
@@ -32,7 +34,15 @@ fn filled_row(buffer: &[u8], source: u64, at: usize, length: usize) -> Row {
         source,
         offset: (at + ROW_HEADER_BYTES) as u64,
         length: (length - ROW_HEADER_BYTES) as u64,
+        pad: pad_bytes(&buffer[at + 17..at + ROW_HEADER_BYTES]),
     }
+}
+
+/// The 7 pad bytes of a row header as one number, the first byte lowest.
+fn pad_bytes(pad: &[u8]) -> u64 {
+    pad.iter()
+        .rev()
+        .fold(0, |number, &byte| number << 8 | u64::from(byte))
 }
 
 /// Same inputs as recovery but no table, so no 10. It gives the row header as

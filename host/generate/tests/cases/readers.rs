@@ -8,10 +8,11 @@ use oracle::{
     backward, forward, free_map, log_open, next_visible, read_row, Row, Step, PAGE_BYTES,
 };
 
-/// The row that a tuple makes, but for where its payload stands.
-fn header_of(tuple: &[u8]) -> (u64, u64, u64, u64) {
+/// The row that a tuple makes, but for where its payload stands: the pad bytes are behind the deleted byte.
+fn header_of(tuple: &[u8]) -> (u64, u64, u64, u64, u64) {
     let number = |at: usize| u64::from_le_bytes(tuple[at..at + 8].try_into().unwrap());
-    (1, number(0), number(8), u64::from(tuple[16]))
+    let deleted = u64::from(tuple[16]);
+    (1, number(0), number(8), deleted, number(16) >> 8)
 }
 
 fn read(case: &Case, page: u64, slot: u16) -> Row {
@@ -56,7 +57,7 @@ fn rows_are_as_recovery_would_leave_them() {
                 empty += 1;
                 continue;
             };
-            let header = (row.filled, row.xmin, row.xmax, row.deleted);
+            let header = (row.filled, row.xmin, row.xmax, row.deleted, row.pad);
             assert_eq!(header, header_of(tuple), "seed {}", case.seed);
             let buffer = match row.source {
                 1 => &case.log,

@@ -20,7 +20,7 @@ fn rows_from_the_pages_and_from_the_log() {
     let mut log = Log::new();
     log.begin(7);
     let update = log.update(7, 1, 1, &old, &new);
-    let filled = |xmax, deleted, source, offset, length| Row {
+    let filled = |xmax, deleted, source, offset, length, fill| Row {
         filled: 1,
         xmin: 5,
         xmax,
@@ -28,6 +28,7 @@ fn rows_from_the_pages_and_from_the_log() {
         source,
         offset,
         length,
+        pad: 0x0001_0101_0101_0101_u64 * fill,
         ..Row::default()
     };
 
@@ -35,13 +36,13 @@ fn rows_from_the_pages_and_from_the_log() {
     let in_pages = (PAGE_BYTES + 64 + 16_290 + 24) as u64;
     assert_eq!(
         row_at(&pages, &log.bytes, 1, 0),
-        filled(0, 0, 2, in_pages, 6)
+        filled(0, 0, 2, in_pages, 6, 1)
     );
     // Touched but not committed: the old image, in the log.
     let old_at = update + 27 + 10 + 4 + 10 + 24;
     assert_eq!(
         row_at(&pages, &log.bytes, 1, 1),
-        filled(0, 0, 1, old_at, 16)
+        filled(0, 0, 1, old_at, 16, 2)
     );
     // Empty, past the item count, on a page of another type.
     for (page, slot) in [(1, 2), (1, 3), (1, u16::MAX), (0, 0)] {
@@ -51,7 +52,10 @@ fn rows_from_the_pages_and_from_the_log() {
     // Committed: the new image, which has an empty payload.
     log.commit(7);
     let new_at = update + 27 + 10 + 4 + 50 + 4 + 10 + 24;
-    assert_eq!(row_at(&pages, &log.bytes, 1, 1), filled(0, 0, 1, new_at, 0));
+    assert_eq!(
+        row_at(&pages, &log.bytes, 1, 1),
+        filled(0, 0, 1, new_at, 0, 3)
+    );
 
     // Deleted: the old image with another header, in the log.
     log.begin(9);
@@ -60,7 +64,7 @@ fn rows_from_the_pages_and_from_the_log() {
     let old_at = delete + 27 + 10 + 4 + 24;
     assert_eq!(
         row_at(&pages, &log.bytes, 1, 1),
-        filled(9, 1, 1, old_at, 16)
+        filled(9, 1, 1, old_at, 16, 2)
     );
 
     // An insert that did not commit leaves its slot empty.

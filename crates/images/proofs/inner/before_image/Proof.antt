@@ -12,14 +12,17 @@ use Rattle.images.proofs.inner.before_image.Tie as tie
 low : (c : tie.After-standing) → c .before .before .args .at + 43 ≤ length (c .before .before .args .log .now)
 low c = let p = c .before .before .pre in place-low (p .0) (p .1 .0) (p .1 .1) (c .standing .ensures)
 
+add-in-log : tie.Need-add-in-log
+add-in-log c = let f = c .before .before in omega (arith, low f, f .before .before .good .0)
+
 returns : tie.Need-returns
 returns c =
     let f = c .before .before .before in
     let p = f .before .before .pre in
     before-insert (p .0) (p .1 .0) (p .1 .1) (f .standing .ensures) (c .before .if1 .taken) (c .in-log .ensures)
 
-add-in-log : tie.Need-add-in-log
-add-in-log c = let f = c .before .before .before .before in omega (arith, low f, f .before .before .good .0)
+add-in-log-2 : tie.Need-add-in-log-2
+add-in-log-2 c = let f = c .before .before .before .before in omega (arith, low f, f .before .before .good .0)
 
 returns-2 : tie.Need-returns-2
 returns-2 c =
@@ -27,8 +30,8 @@ returns-2 c =
     let p = f .before .before .pre in
     before-delete (p .0) (p .1 .0) (p .1 .1) (f .standing .ensures) (c .before .if2 .taken) (c .in-log2 .ensures)
 
-add-in-log-2 : tie.Need-add-in-log-2
-add-in-log-2 c = let f = c .before .before .before .before in omega (arith, low f, f .before .before .good .0)
+add-in-log-3 : tie.Need-add-in-log-3
+add-in-log-3 c = let f = c .before .before .before .before in omega (arith, low f, f .before .before .good .0)
 
 sub-in-log : tie.Need-sub-in-log
 sub-in-log c =
@@ -47,12 +50,13 @@ before-image-spec =
     tie.close
     (tie.spec
     (λ c κs. search needs)
-    (λ c κs. search needs)
-    returns
     add-in-log
     (λ c κs. search needs)
-    returns-2
+    returns
     add-in-log-2
+    (λ c κs. search needs)
+    returns-2
+    add-in-log-3
     sub-in-log
     (λ c κs. search needs)
     returns-3)

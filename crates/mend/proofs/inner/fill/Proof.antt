@@ -26,7 +26,7 @@ put-image-requires c κs =
     let s = l .before .before .before .before in
     let a = s .args in
     let f = s .pre .1 .1 .1 .1 in
-    (t .slot-image .ensures .lies, fill-room (a .log .now) (a .page .now) (a .i) (a .n) (f .0) (f .1) (l .loop .inv .2) (t .before .loop-test .taken) (t .slot-image .ensures))
+    (t .slot-image .ensures .0 .lies, fill-room (a .log .now) (a .page .now) (a .i) (a .n) (f .0) (f .1) (l .loop .inv .2) (t .before .loop-test .taken) (t .slot-image .ensures .0))
 
 loop-again : tie.Need-loop-again Inv-loop μ-loop
 loop-again c =
@@ -38,7 +38,7 @@ loop-again c =
     let f = s .pre .1 .1 .1 .1 in (
       omega arith,
       p .put-image .kept .0 ∙ l .loop .inv .1,
-      fill-next (a .log .now) (a .page .now) (a .i) (a .n) (f .0) (f .1) (l .loop .inv .2) (t .before .loop-test .taken) (t .slot-image .ensures) _ _ (p .put-image .kept .0) (p .put-image .ensures .0)
+      fill-next (a .log .now) (a .page .now) (a .i) (a .n) (f .0) (f .1) (l .loop .inv .2) (t .before .loop-test .taken) (t .slot-image .ensures .0) _ _ (p .put-image .kept .0) (p .put-image .ensures .0)
           (p .put-image .ensures .1),
     )
 

@@ -10,14 +10,16 @@ use Rattle.recovery.proofs.row.head_in.Tie as tie
 returns : tie.Need-returns
 returns c =
     let t = c .before .before in
-    let p = t .before .before .before .pre in
-    c .filled .ensures ∙ rw (t .before .u64-at .ensures) (head-stamped _ (t .before .before .before .args .m) (p .0) (p .1) (t .if1 .taken) (search needs))
+    let a = t .before .before .before .before in
+    let p = a .pre in
+    c .filled .ensures ∙ rw (t .before .before .u64-at .ensures, t .before .pad-at .ensures) (head-stamped _ (a .args .m) (p .0) (p .1) (t .if1 .taken) (omega (arith, a .good .1)))
 
 returns-2 : tie.Need-returns-2
 returns-2 c =
     let e = c .before .before .before .before .before in
-    let p = e .before .before .before .pre in
-    c .filled2 .ensures ∙ rw (e .before .u64-at .ensures, c .before .u64-at2 .ensures) (head-plain _ (e .before .before .before .args .m) (p .0) (p .1) (e .if1 .left))
+    let a = e .before .before .before .before in
+    let p = a .pre in
+    c .filled2 .ensures ∙ rw (e .before .before .u64-at .ensures, c .before .u64-at2 .ensures, e .before .pad-at .ensures) (head-plain _ (a .args .m) (p .0) (p .1) (e .if1 .left))
 
 pub head-in-spec : {M : Type 1} → statement M
-head-in-spec = tie.close (tie.spec (λ c κs. search needs) (λ c κs. search needs) returns (λ c. search needs) (λ c. search needs) (λ c. search needs) (λ c κs. search needs) (λ c κs. search needs) returns-2)
+head-in-spec = tie.close (tie.spec (λ c κs. search needs) (λ c κs. search needs) (λ c κs. search needs) returns (λ c. search needs) (λ c. search needs) (λ c. search needs) (λ c κs. search needs) (λ c κs. search needs) returns-2)

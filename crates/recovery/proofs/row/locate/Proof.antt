@@ -1,7 +1,7 @@
 use mathlib.Core.Path.{_≡_, sym, ap, _∙_}
 use native.Mathlib.Omega.{arith}
 use Rattle.rules.specs.declared.RowHead.{RowHead}
-use Rattle.recovery.specs.declared.Located.{Located}
+use Rattle.rules.specs.declared.Located.{Located}
 use Rattle.recovery.specs.Spot.{locatedBy}
 use Rattle.recovery.proofs.RowLaws.{lies-small, located-head}
 use borrow.Author.Needs.{needs}

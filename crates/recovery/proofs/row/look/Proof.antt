@@ -63,7 +63,7 @@ returns-4 c =
     let o = n .before .before in
     let e = o .before in
     let j = e .before .before .before in
-    spot-found _ _ _ _ _ _ (row-accepted _ _ _ _ _ (verdict-zero (j .judge .ensures .0) (e .if1 .left)) (omega (arith, o .if2 .left))) (of-data n) (sured e .ordered) (page-sound n) (c .winning .ensures)
+    spot-found _ _ _ _ _ _ (row-accepted _ _ _ _ _ (verdict-zero (j .judge .ensures .0) (e .if1 .left)) (omega (arith, o .if2 .left))) (of-data n) (sured e .ordered) (page-sound n) (c .winning .ensures .0) (c .winning .ensures .1)
 
 mul-if3 : tie.Need-mul-if3
 mul-if3 c = omega (arith, sured (c .before) .few, c .if2 .left)

@@ -3,7 +3,7 @@
 use native.Mathlib.Omega.{arith}
 use Rattle.page.proofs.Verdicts.{page-part}
 use Rattle.images.proofs.Deciding.{top-asked, top-found, page-cells}
-use Rattle.recovery.proofs.Spots.{top-few, place-small, stood-shifted}
+use Rattle.recovery.proofs.Spots.{top-few, place-small, stood-shifted, placed-shifted}
 use borrow.Author.Needs.{needs}
 use Rattle.recovery.proofs.row.winning.Statement.{statement}
 use Rattle.recovery.proofs.row.winning.Tie as tie
@@ -30,13 +30,16 @@ shifted-requires : tie.Need-shifted-requires
 shifted-requires c κs =
     let p = c .before .before .before .before .before .before .before .before .pre in
     let q = p .1 .1 .1 .1 .1 .1 in
-    omega (arith, place-small (q .0) (rw (page-part _ _) (p .1 .1 .1 .1 .0 .size)) (c .slot-image .ensures), q .2, q .3)
+    omega (arith, place-small (q .0) (rw (page-part _ _) (p .1 .1 .1 .1 .0 .size)) (c .slot-image .ensures .0), q .2, q .3)
 
 returns : tie.Need-returns
 returns c =
     let p = c .before .before .before .before .before .before .before .before .before .pre in
     let q = p .1 .1 .1 .1 .1 .1 in
-    rw (c .shifted .ensures) (stood-shifted _ (p .1 .1 .1 .1 .0 .size) (omega (arith, q .1, q .3)) (rw (page-part _ _) at (c .before .slot-image .ensures)))
+    rw (c .shifted .ensures) (
+      stood-shifted _ (p .1 .1 .1 .1 .0 .size) (omega (arith, q .1, q .3)) (rw (page-part _ _) at (c .before .slot-image .ensures .0)),
+      placed-shifted _ _ _ (rw (page-part _ _) at (c .before .slot-image .ensures .1)),
+    )
 
 pub winning-spec : {M : Type 1} → statement M
 winning-spec =

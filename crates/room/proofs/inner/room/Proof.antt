@@ -29,13 +29,13 @@ add-sum : tie.Need-add-sum Inv-loop μ-loop
 add-sum c = let i = c .before .before .loop .inv in omega (arith, i .0, i .1, i .2 .small)
 
 add-sum-2 : tie.Need-add-sum-2 Inv-loop μ-loop
-add-sum-2 c = let i = c .before .before .before .loop .inv in omega (arith, i .0, i .1, i .2 .small, c .before .slot-image .ensures .lies .short)
+add-sum-2 c = let i = c .before .before .before .loop .inv in omega (arith, i .0, i .1, i .2 .small, c .before .slot-image .ensures .0 .lies .short)
 
 loop-less : tie.Need-loop-less Inv-loop μ-loop
 loop-less c = let t = c .before .before .loop-test .taken in omega arith
 
 loop-again : tie.Need-loop-again Inv-loop μ-loop
-loop-again c = let i = c .before .before .before .loop .inv in let t = c .before .before .loop-test .taken in (omega arith, i .1, summing-next (i .2) (c .before .slot-image .ensures))
+loop-again c = let i = c .before .before .before .loop .inv in let t = c .before .before .loop-test .taken in (omega arith, i .1, summing-next (i .2) (c .before .slot-image .ensures .0))
 
 returns : tie.Need-returns Inv-loop μ-loop
 returns c =
