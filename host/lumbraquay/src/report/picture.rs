@@ -1,8 +1,9 @@
 //! The pictures of a report: the pages as a grid, and the transactions as bars over the log.
 
+use std::cmp::Reverse;
 use std::collections::BTreeMap;
 
-use library::{Step, PAGE_BYTES};
+use library::{Record, Step, PAGE_BYTES};
 
 use crate::mended::Mended;
 use crate::show;
@@ -20,7 +21,7 @@ const FEW_COLUMNS: usize = 16;
 const CELL: usize = 14;
 const LARGE_CELL: usize = 34;
 
-/// How many transactions are drawn at most; those that did not commit come first.
+/// How many transactions are drawn at most: first those that never ended, then those with the most changes.
 const MOST_BARS: usize = 60;
 const BAR: usize = 16;
 
@@ -174,7 +175,8 @@ pub fn transactions(mended: &Mended) -> String {
     svg += "</svg></div>\n";
     let left_out = mended.records.len().saturating_sub(bars.len());
     if left_out > 0 {
-        svg += &format!("<p class=\"note\">{left_out} more are not drawn.</p>\n");
+        svg +=
+            &format!("<p class=\"note\">{left_out} more, which changed less, are not drawn.</p>\n");
     }
     svg + LEGEND_OF_BARS
 }
@@ -186,15 +188,12 @@ const LEGEND_OF_BARS: &str = "<p class=\"legend\"><span class=\"mark committed\"
 
 /// The transactions that are drawn, with their outcomes.
 fn drawn(mended: &Mended) -> BTreeMap<u64, u64> {
-    let committed = |outcome: u64| outcome == library::COMMITTED;
-    let mut all: Vec<(u64, u64)> = mended
-        .records
-        .iter()
-        .map(|it| (it.number, it.outcome))
-        .collect();
-    all.sort_by_key(|(_, outcome)| committed(*outcome));
-    all.truncate(MOST_BARS);
-    all.into_iter().collect()
+    let mut all: Vec<&Record> = mended.records.iter().collect();
+    all.sort_by_key(|record| (record.outcome != library::UNENDED, Reverse(record.changes)));
+    let drawn = all.into_iter().take(MOST_BARS);
+    drawn
+        .map(|record| (record.number, record.outcome))
+        .collect()
 }
 
 fn add(bars: &mut BTreeMap<u64, Bar>, step: &Step, outcome: u64) {
