@@ -2,6 +2,8 @@
 
 use std::sync::atomic::{AtomicPtr, Ordering};
 
+use crate::plain::plain;
+
 static MARKED: AtomicPtr<String> = AtomicPtr::new(std::ptr::null_mut());
 
 /// Words that are ready before the change that they tell of.
@@ -12,7 +14,7 @@ pub struct Mark {
 impl Mark {
     pub fn new(words: String) -> Mark {
         Mark {
-            words: Box::leak(Box::new(words)),
+            words: Box::leak(Box::new(plain(&words).into_owned())),
         }
     }
 
