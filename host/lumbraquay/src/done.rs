@@ -2,23 +2,25 @@
 
 use std::sync::atomic::{AtomicPtr, Ordering};
 
+use crate::plain::plain;
+
 static MARKED: AtomicPtr<String> = AtomicPtr::new(std::ptr::null_mut());
 
 /// Words that are ready before the change that they tell of.
 pub struct Mark {
-    words: Box<String>,
+    words: &'static mut String,
 }
 
 impl Mark {
     pub fn new(words: String) -> Mark {
         Mark {
-            words: Box::new(words),
+            words: Box::leak(Box::new(plain(&words).into_owned())),
         }
     }
 
     /// The change is made. Needs no memory; the words stay until the end of the run.
     pub fn set(self) {
-        MARKED.store(Box::into_raw(self.words), Ordering::SeqCst);
+        MARKED.store(self.words, Ordering::SeqCst);
     }
 }
 

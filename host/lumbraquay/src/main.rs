@@ -17,6 +17,7 @@ mod mended;
 mod output;
 mod plain;
 mod portal;
+mod report;
 mod show;
 mod slow;
 mod stats;

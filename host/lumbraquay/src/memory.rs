@@ -1,14 +1,14 @@
 //! Memory that may run out: large buffers are asked for, and whatever else finds none ends the run with a clear error.
 
 use std::alloc::{GlobalAlloc, Layout, System};
-use std::ffi::{c_int, c_void};
+use std::ffi::c_int;
 use std::sync::atomic::{AtomicBool, AtomicPtr, Ordering};
 
 use crate::done;
 use crate::failure::Failure;
+use crate::sys::put;
 
 extern "C" {
-    fn write(file: c_int, bytes: *const c_void, size: usize) -> isize;
     fn _exit(status: c_int) -> !;
 }
 
@@ -85,19 +85,16 @@ pub fn tell_as_json(json: bool) {
 
 /// Ends the run without any memory.
 fn end() -> ! {
-    let tell = |file: c_int, text: &str| unsafe {
-        write(file, text.as_ptr().cast(), text.len());
-    };
     let is_done = done::marked().is_some();
     if JSON.load(Ordering::SeqCst) && !is_done {
-        tell(
+        put(
             1,
             "{\"result\":\"error\",\"message\":\"out of memory; no file was changed\"}\n",
         );
     } else {
-        tell(2, "lumbraquay: out of memory; ");
-        tell(2, done::so_far());
-        tell(2, "\n");
+        put(2, "lumbraquay: out of memory; ");
+        put(2, done::so_far());
+        put(2, "\n");
     }
     unsafe { _exit(if is_done { 4 } else { 2 }) }
 }

@@ -1,5 +1,6 @@
 //! Pages that were mended by a log: what the library answered, and the bytes that it left.
 
+use library::refusal::{self, Place};
 use library::{Answer, Record, LOG_HEAD_BYTES, RECORD_NUMBERS, SHORTEST_ENTRY_BYTES};
 
 use crate::args::Parsed;
@@ -50,6 +51,12 @@ impl Mended {
     /// What was read, for the words of a refusal.
     pub fn read(&self) -> Read<'_> {
         Read::both(&self.pages, &self.log, self.floor)
+    }
+
+    /// The page that a refusal speaks of.
+    pub fn faulty_page(&self) -> Option<u64> {
+        let refusal = refusal::refusal(self.answer.number)?;
+        (refusal.place == Place::PageIndex).then_some(self.answer.place)
     }
 
     /// The slots that hold something else afterwards.

@@ -6,6 +6,8 @@ use std::io::{Error, ErrorKind, Result};
 use std::os::fd::AsRawFd;
 use std::sync::atomic::{AtomicI32, Ordering};
 
+use crate::done;
+
 extern "C" {
     fn flock(file: c_int, operation: c_int) -> c_int;
     fn fcntl(file: c_int, command: c_int, ...) -> c_int;
@@ -20,6 +22,7 @@ extern "C" {
     ) -> c_int;
     fn signal(number: c_int, action: usize) -> usize;
     fn raise(number: c_int) -> c_int;
+    fn write(file: c_int, bytes: *const c_void, size: usize) -> isize;
 }
 
 const LOCK_EX: c_int = 2;
@@ -123,6 +126,19 @@ extern "C" fn catch(number: c_int) {
     CAUGHT.store(number, Ordering::SeqCst);
 }
 
+/// A file was changed, and only the report is left to print: says so, and ends.
+extern "C" fn tell(number: c_int) {
+    put(2, "lumbraquay: stopped by a signal; ");
+    put(2, done::so_far());
+    put(2, "\n");
+    end_by(number);
+}
+
+/// Writes a text to an open file without any memory. Nothing is done where that fails.
+pub fn put(file: c_int, text: &str) {
+    unsafe { write(file, text.as_ptr().cast(), text.len()) };
+}
+
 /// While it stands, signals that ask for an end wait until they are looked for.
 pub struct Signals {
     before: Vec<(c_int, usize)>,
@@ -151,7 +167,10 @@ impl Signals {
 
 impl Drop for Signals {
     fn drop(&mut self) {
+        let told: extern "C" fn(c_int) = tell;
+        let is_done = done::marked().is_some();
         for (number, action) in self.before.drain(..) {
+            let action = if is_done { told as usize } else { action };
             unsafe { signal(number, action) };
         }
     }

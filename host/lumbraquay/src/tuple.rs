@@ -23,6 +23,14 @@ impl<'a> Tuple<'a> {
         bytes.map_or(0, |bytes| u64::from_le_bytes(*bytes))
     }
 
+    pub fn xmin(&self) -> u64 {
+        self.number(0)
+    }
+
+    pub fn xmax(&self) -> u64 {
+        self.number(8)
+    }
+
     pub fn is_deleted(&self) -> bool {
         self.bytes[16] == 1
     }
@@ -36,8 +44,8 @@ impl<'a> Tuple<'a> {
         let state = if self.is_deleted() { "deleted" } else { "live" };
         format!(
             "{state}, xmin {}, xmax {}, {}",
-            self.number(0),
-            self.number(8),
+            self.xmin(),
+            self.xmax(),
             show::payload(self.payload(), most)
         )
     }
@@ -46,8 +54,8 @@ impl<'a> Tuple<'a> {
         let payload = self.payload();
         Json::Object(vec![
             ("deleted", self.is_deleted().into()),
-            ("xmin", self.number(0).into()),
-            ("xmax", self.number(8).into()),
+            ("xmin", self.xmin().into()),
+            ("xmax", self.xmax().into()),
             ("payload", Json::text(show::hex(payload))),
             (
                 "text",

@@ -6,6 +6,7 @@ mod log;
 mod pages;
 mod recover;
 mod replay;
+mod report;
 mod row;
 mod rows;
 mod verify;
@@ -28,6 +29,7 @@ pub const ALL: &[Command] = &[
     rows::COMMAND,
     row::COMMAND,
     freemap::COMMAND,
+    report::COMMAND,
     replay::COMMAND,
 ];
 

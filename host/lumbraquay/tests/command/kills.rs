@@ -59,12 +59,15 @@ fn reset(sandbox: &Sandbox, old: &[u8]) {
     sandbox.write("outage.pages", old);
 }
 
-/// What came of the rounds, by how the run ended.
+/// What came of the rounds, by how the run ended; appended, what another process wrote; left, files of killed runs; aside,
+/// writes that are in the old file of a killed run.
 #[derive(Debug, Default)]
 struct Tally {
     done: u64,
     failed: u64,
     killed: u64,
+    /// Killed when the new file stood already.
+    replaced: u64,
     appended: u64,
     left: u64,
     aside: u64,
@@ -181,7 +184,13 @@ impl Scene {
                 tally.failed += 1;
                 assert!(bytes == self.old && has_it, "{done:#?}");
             }
-            None => tally.killed += 1,
+            None => {
+                tally.killed += 1;
+                tally.replaced += u64::from(bytes == self.new);
+                let says = "is replaced by the recovered pages; ";
+                let is_told = signal == 9 || bytes == self.old || done.err.contains(says);
+                assert!(is_told, "{done:#?}");
+            }
             _ => panic!("{done:#?}"),
         }
         tally.appended += u64::from(appended);

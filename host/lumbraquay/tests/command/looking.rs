@@ -370,7 +370,7 @@ fn standard_input_and_output() {
         let done = sandbox
             .shell(&format!("\"$LQ\" {words} < outage.pages"))
             .done();
-        assert_eq!(done.out.starts_with("-: 4 pages"), true, "{done:#?}");
+        assert!(done.out.starts_with("-: 4 pages"), "{done:#?}");
     }
     sandbox
         .shell("cat outage.log | \"$LQ\" log -")

@@ -15,6 +15,7 @@ mod place;
 mod recover;
 mod refusals;
 mod replay;
+mod report;
 mod sandbox;
 mod tools;
 mod usage;

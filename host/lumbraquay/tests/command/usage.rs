@@ -2,8 +2,8 @@
 
 use crate::sandbox::Sandbox;
 
-const COMMANDS: [&str; 9] = [
-    "demo", "recover", "verify", "log", "pages", "rows", "row", "freemap", "replay",
+const COMMANDS: [&str; 10] = [
+    "demo", "recover", "verify", "log", "pages", "rows", "row", "freemap", "report", "replay",
 ];
 
 #[test]
