@@ -76,7 +76,7 @@ fn every_end_has_a_result() {
         .fails(&["cannot open --json: No such file"]);
 }
 
-/// Numbers above 2^53 have a twin that is a text.
+/// Numbers from 2^53 on have a twin that is a text.
 #[test]
 fn large_numbers_are_exact() {
     let sandbox = Sandbox::new();
