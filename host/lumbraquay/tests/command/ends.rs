@@ -66,6 +66,7 @@ fn every_end_has_a_result() {
     assert!(wrong.text("message").starts_with(
         "LOG is missing: the log file; - for standard input\nuse: lumbraquay recover"
     ));
+    assert_eq!(wrong.text("pages_file"), "outage.pages");
     let unknown = sandbox
         .say("mend --json")
         .fails_as_json("'mend' is no command");
