@@ -15,7 +15,7 @@ use Rattle.rules.specs.declared.Located.{Located}
 use Rattle.page.specs.Fault.{verdictOf}
 use Rattle.page.specs.Rows.{nextRow}
 use Rattle.page.specs.FreeMap.{mapVerdict, freeCount}
-use Rattle.page.specs.declared.Verdict.{Verdict}
+use Rattle.refusals.specs.declared.Verdict.{Verdict}
 use Rattle.page.specs.declared.NextRow.{NextRow}
 use Rattle.page.specs.declared.NextRow.the-variants.{Refused, At, NoMore}
 

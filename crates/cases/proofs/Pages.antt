@@ -17,12 +17,13 @@ use Rattle.wal.proofs.Encoding.{entries-log, end-log, header-log, length-log}
 use Rattle.wal.proofs.ReadLaws.{past-end}
 use Rattle.page.specs.Layout.{pageBytes, bodyBytes, pageLimit, pagesIn, pageAt, typeOf, lsnOf, slotAt}
 use Rattle.page.specs.Packed.{packed, tab, roomFor}
-use Rattle.page.specs.Fault.{verdict, accepted, faultOf, sizeWrong}
-use Rattle.page.specs.declared.Verdict.{Verdict}
+use Rattle.refusals.specs.Verdict.{verdict, accepted, _then_}
+use Rattle.page.specs.Fault.{faultOf, pageVerdict, firstBad, sizeWrong}
+use Rattle.refusals.specs.declared.Verdict.{Verdict}
 use Rattle.page.specs.declared.Fault.the-variants.{Sound}
 use Rattle.page.proofs.FaultLaws.{good-sound}
 use Rattle.rules.specs.Shape.{pageOf as pageNumber}
-use Rattle.rules.specs.Order.{lastLsn, fullAt, orderFrom, endVerdict, logVerdict, _then_}
+use Rattle.rules.specs.Order.{lastLsn, fullAt, orderFrom, endVerdict, logVerdict}
 use Rattle.rules.specs.Mend.{committed, topOf, decided, slotsFor, headFor, repacked, unless, mendBy, mend}
 use Rattle.rules.specs.Recover.{pagesFrom, strayFrom, isTight, tightFrom, recoverVerdict, done, Recovered, recoverOf}
 use Rattle.rules.specs.declared.Answer.{Answer}
@@ -175,7 +176,7 @@ module _ (floor : ℕ) (ps : List Page) (log : List ℕ) (es : List Entry) (T : 
 
     -- 12
     pub above : max floor (lastLsn es) < nth ps 0 .lsn → recoverVerdict (fullAt 8) magic floor (area ps) log ≡ verdict 12 0
-    unfolding pagesFrom
+    unfolding firstBad pageVerdict
     above h =
         let l : 0 < length ps = omega arith in
         let t : ltb (max floor (lastLsn es)) (lsnOf (pageAt 0 (area ps))) ≡ true = lt-ltb (max floor (lastLsn es)) (lsnOf (pageAt 0 (area ps))) (rw (lsn-here 0 l) h) in
@@ -183,7 +184,7 @@ module _ (floor : ℕ) (ps : List Page) (log : List ℕ) (es : List Entry) (T : 
 
     -- 14
     pub tight : nth ps 0 .lsn ≤ max floor (lastLsn es) → 0 < topOf 0 es → bodyBytes < roomFor (slotsAfter 0 (nth ps 0) es) → recoverVerdict (fullAt 8) magic floor (area ps) log ≡ verdict 14 0
-    unfolding pagesFrom tightFrom isTight
+    unfolding firstBad pageVerdict tightFrom isTight
     tight known touched over =
         let l : 0 < length ps = omega arith in
         let t : ltb (max floor (lastLsn es)) (lsnOf (pageAt 0 (area ps))) ≡ false = le-ltb (max floor (lastLsn es)) (lsnOf (pageAt 0 (area ps))) (rw (lsn-here 0 l) known) in

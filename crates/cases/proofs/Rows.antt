@@ -18,13 +18,14 @@ use Rattle.wal.specs.declared.Reading.the-variants.{Whole, End, Torn, Damage}
 use Rattle.wal.proofs.WalkLaws.{none, not-end, not-torn, not-damage}
 use Rattle.page.specs.Layout.{bodyOf, slotOff, freeStartOf, freeEndOf, xmaxOf, deletedOf}
 use Rattle.page.specs.Packed.{body}
-use Rattle.page.specs.Fault.{accepted, sizeWrong}
-use Rattle.page.specs.declared.Verdict.{Verdict}
+use Rattle.refusals.specs.Verdict.{accepted, _then_}
+use Rattle.page.specs.Fault.{firstBad, sizeWrong}
+use Rattle.refusals.specs.declared.Verdict.{Verdict}
 use Rattle.page.proofs.Fields.{body-back, freeStart-back, freeEnd-back}
 use Rattle.rules.specs.Shape.{isKnown, isChange, isChanging, isImage, same, isKeyed, isBare, isShaped, beforeOf, afterOf, stamped, isOn, effectOn, topOn, sameSlot}
-use Rattle.rules.specs.Order.{begun, ended, isOpen, inOrder, clashes, faultAfter, fullAt, orderFrom, endVerdict, logVerdict, _then_}
+use Rattle.rules.specs.Order.{begun, ended, isOpen, inOrder, clashes, faultAfter, fullAt, orderFrom, endVerdict, logVerdict}
 use Rattle.rules.specs.Mend.{committed, changes, topOf, decided}
-use Rattle.rules.specs.Recover.{pagesFrom, strayFrom, tightFrom, recoverVerdict, done}
+use Rattle.rules.specs.Recover.{strayFrom, tightFrom, recoverVerdict, done}
 use Rattle.rules.specs.declared.Answer.{Answer}
 use Rattle.rules.proofs.Again.{recover-done}
 use Rattle.cases.specs.Build.{begins, commits, rollsBack, inserts, deletes, updates, logOf, magic, page, area, tuple}
@@ -183,7 +184,7 @@ module _ (s : List ℕ) (head : headerFault s ≡ 0) (r : Reading) (read : readA
   no-views = none s 32 (λ v q. never v (sym read ∙ q))
 
   ends : recoverVerdict (fullAt 8) magic 0 [] s ≡ (endVerdict r 32 then accepted)
-  unfolding recoverVerdict logVerdict sizeWrong orderFrom pagesFrom strayFrom tightFrom
+  unfolding recoverVerdict logVerdict sizeWrong orderFrom firstBad strayFrom tightFrom
   ends = rw (head, no-views, read)
 
   tail-is : endVerdict r 32 ≡ accepted → Meets (run (input 0 [] s)) (tail 32)

@@ -1,4 +1,4 @@
--- Where the cells of touched pages stand: one cell for each slot up to the highest touched one, page by page.
+-- Internal: where the cells of touched pages stand: one cell for each slot up to the highest touched one, page by page.
 use Prim.Native.Nat.{ℕ, zero, suc, _+_, _-_, _≤_}
 use mathlib.Core.Path.{_≡_}
 use mathlib.Core.List.{List}

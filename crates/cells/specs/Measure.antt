@@ -1,4 +1,4 @@
--- What one walk over the entries before a place finds of each page.
+-- Internal: what one walk over the entries before a place finds of each page.
 use Prim.Native.Nat.{ℕ, _+_, _≤_, _<_}
 use mathlib.Core.Path.{_≡_}
 use mathlib.Core.Bool.{Bool, true, false}

@@ -1,3 +1,2 @@
 pub mod LogLaws
-pub mod PageLaws
 pub mod StrayLaws

@@ -13,9 +13,9 @@ use Rattle.wal.specs.Read.{headerFault, first, readAt}
 use Rattle.wal.specs.Walk.{entries, endOf, endingOf}
 use Rattle.wal.specs.Prefix.{before}
 use Rattle.wal.proofs.Prefix.{before-end}
-use Rattle.page.specs.Fault.{verdict, accepted}
-use Rattle.page.specs.declared.Verdict.{Verdict}
-use Rattle.rules.specs.Order.{lastLsn, orderFrom, endVerdict, logVerdict, _then_}
+use Rattle.refusals.specs.Verdict.{verdict, accepted, _then_}
+use Rattle.refusals.specs.declared.Verdict.{Verdict}
+use Rattle.rules.specs.Order.{lastLsn, orderFrom, endVerdict, logVerdict}
 use Rattle.rules.proofs.Tests.{past}
 use Rattle.order.specs.State.{basicFrom}
 use Rattle.order.specs.Clash.{clashFrom, passed}

@@ -17,8 +17,8 @@ use Rattle.wal.specs.Prefix.{Stands, said, onward}
 use Rattle.wal.proofs.Places.{size-of}
 use Rattle.wal.proofs.Prefix.{stands-at, before-end, onward-first, onward-next, onward-end}
 use Rattle.page.specs.Layout.{pageBytes, dataType, pagesIn}
-use Rattle.page.specs.Fault.{verdict, accepted}
-use Rattle.page.specs.declared.Verdict.{Verdict}
+use Rattle.refusals.specs.Verdict.{verdict, accepted}
+use Rattle.refusals.specs.declared.Verdict.{Verdict}
 use Rattle.page.proofs.Reading.{type-at}
 use Rattle.rules.specs.Shape.{both, isChange, isOn, pageOf, slotOf, topOn}
 use Rattle.rules.specs.Order.{any}

@@ -11,7 +11,7 @@ ghost use Rattle.wal.specs.Read.{first};
 ghost use Rattle.wal.specs.Walk.{entries, endOf};
 ghost use Rattle.wal.specs.Prefix.{Stands, said};
 ghost use Rattle.page.specs.Layout.{pageBytes, dataType, pagesIn};
-ghost use Rattle.page.specs.Fault.{verdict, accepted};
+ghost use Rattle.refusals.specs.Verdict.{verdict, accepted};
 ghost use Rattle.rules.specs.Shape.{isShaped};
 ghost use Rattle.rules.specs.Recover.{pagesFrom, isStray, strayFrom};
 ghost use Rattle.cells.specs.Cell.{Starts};
@@ -19,26 +19,21 @@ ghost use Rattle.cells.specs.Listing.{Lists};
 ghost use Rattle.cells.specs.Measure.{Sound, FirstBeyond};
 ghost use Rattle.order.specs.First.{fullOf};
 ghost use Rattle.order.specs.Hints.{Hints};
-ghost use Rattle.checks.specs.Judged.{Judged, OfData, pageNumber, pagesBy};
+ghost use Rattle.checks.specs.Judged.{Judged, OfData};
 use crate::Found;
 use cells::inner::measure;
 use cells::inner::page_at;
 use clash::inner::clash;
 use crc32c::inner::Tables;
 use endian::Lsn;
-use endian::PageNumber;
 use order::Walked;
 use order::inner::is_change;
 use order::inner::walk;
 use page::DATA_TYPE;
-use page::Fault;
 use page::PAGE_BYTES;
-use page::Verdict;
-use page::inner::fault;
-use page::inner::lsn;
+use page::inner::first_bad;
 use refusals::CLASH;
-use refusals::PAGE_LSN;
-use refusals::PAGE_NOT_GOOD;
+use refusals::Verdict;
 use wal::FIRST;
 use wal::header_fault;
 use wal::inner::standing;
@@ -93,57 +88,16 @@ pub fn judge_log(
     }
 }
 
-// Refusal 11 or 12 of the page at an index, or 0; `known` is the larger of the floor and the last LSN.
-fn page_number(t: &Tables, magic: u64, known: u64, index: usize, page: &[u8]) -> u64
-    requires { ⌜ Tables (now t) ⌝ }
-    requires { ⌜ length (now page) ≡ pageBytes ⌝ }
-    ensures { λ r. ⌜ r ≡ pageNumber magic known index (now (page .entry)) ⌝ }
-{
-    let f = fault(t, magic, PageNumber(index as u64), page);
-    let Fault::Sound = f else {
-        return PAGE_NOT_GOOD;
-    };
-    if known < lsn(page).0 {
-        return PAGE_LSN;
-    }
-    0
-}
-
-// Refusals 11 and 12, page by page, of n pages.
-fn pages_from(t: &Tables, magic: u64, known: u64, pages: &[u8], n: usize) -> Verdict
-    requires { ⌜ Tables (now t) ⌝ }
-    requires { ⌜ n ≡ pagesIn (now pages) ⌝ }
-    ensures { λ r. ⌜ r ≡ pagesBy magic known (now (pages .entry)) n 0 ⌝ }
-{
-    let mut i: usize = 0;
-    while i < n {
-        let a = i * PAGE_BYTES;
-        let e = a + PAGE_BYTES;
-        let number = page_number(t, magic, known, i, &pages[a..e]);
-        if number != 0 {
-            return Verdict {
-                number: number,
-                place: i as u64,
-            };
-        }
-        i += 1;
-    }
-    Verdict {
-        number: 0,
-        place: 0,
-    }
-}
-
-// The same, by the floor and the last LSN.
+// Refusals 11 and 12, page by page, of n pages, by the floor and the last LSN.
 pub fn judge_pages(t: &Tables, magic: u64, floor: Lsn, last: Lsn, pages: &[u8], n: usize) -> Verdict
     requires { ⌜ Tables (now t) ⌝ }
     requires { ⌜ n ≡ pagesIn (now pages) ⌝ }
     ensures { λ r. ⌜ r ≡ pagesFrom magic (floor .0) (last .0) (now (pages .entry)) n 0 ⌝ }
 {
     if floor.0 < last.0 {
-        return pages_from(t, magic, last.0, pages, n);
+        return first_bad(t, magic, true, last.0, pages, n);
     }
-    pages_from(t, magic, floor.0, pages, n)
+    first_bad(t, magic, true, floor.0, pages, n)
 }
 
 // Whether the entry at `at` changes a page beyond the n lent ones or not of type 1.

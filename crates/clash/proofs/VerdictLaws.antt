@@ -16,11 +16,10 @@ use Rattle.wal.specs.Read.{lengthAt, keyLen, view}
 use Rattle.wal.specs.Prefix.{Met, Stands, said, before}
 use Rattle.wal.proofs.Places.{size-of}
 use Rattle.wal.proofs.Prefix.{Along, start, more, along, stands-at, met-from, met-below, before-first, before-next}
-use Rattle.page.specs.Fault.{verdict, accepted}
+use Rattle.refusals.specs.Verdict.{verdict, accepted, _then_}
 use Rattle.rules.specs.Shape.{both, either, isChange, pageOf, topOn}
 use Rattle.rules.specs.Mend.{topOf}
 use Rattle.rules.proofs.Slots.{top-append}
-use Rattle.rules.specs.Order.{_then_}
 use Rattle.rules.proofs.Tests.{false-true, true-both}
 use Rattle.order.specs.Clash.{clashAfter, clashFrom}
 use Rattle.cells.specs.Measure.{Sound, isBeyond, FirstBeyond}

@@ -1,4 +1,4 @@
--- The first clash before a place.
+-- Internal: the first clash before a place.
 use Prim.Native.Nat.{ℕ, _≤_, _<_}
 use mathlib.Core.Path.{_≡_}
 use mathlib.Core.Bool.{Bool, true, false}

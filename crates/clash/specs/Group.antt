@@ -1,4 +1,4 @@
--- The cells of a group of pages on a walk for clashes.
+-- Internal: the cells of a group of pages on a walk for clashes.
 use Prim.Native.Nat.{ℕ, _+_, _*_, _-_, _≤_, _<_}
 use mathlib.Core.Path.{_≡_}
 use mathlib.Core.Bool.{Bool, true}

@@ -1,4 +1,4 @@
--- The transaction of the newest change on a slot, and what a cell keeps of it.
+-- Internal: the transaction of the newest change on a slot, and what a cell keeps of it.
 use Prim.Native.Nat.{ℕ, zero, _+_, _%_}
 use mathlib.Core.Path.{_≡_}
 use mathlib.Core.Bool.{Bool}

@@ -1,4 +1,4 @@
--- What a walk for clashes keeps of open transactions, for each remainder of their numbers.
+-- Internal: what a walk for clashes keeps of open transactions, for each remainder of their numbers.
 use Prim.Native.Nat.{ℕ, _+_, _%_, _≤_, _<_}
 use mathlib.Core.Path.{_≡_}
 use mathlib.Core.Bool.{Bool, true, false}

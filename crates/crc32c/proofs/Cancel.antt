@@ -9,7 +9,7 @@ use lib.Dec.{eqb→eq}
 use lib.Bits.{bitXor, xor-shifted}
 use lib.Pow.{split, pow-pos, pow-add, shl-lt}
 use Rattle.crc32c.specs.Crc.{shift, shifts}
-use Rattle.crc32c.specs.Sparse.{pull}
+use Rattle.crc32c.specs.Sparse.{degree, e₄, e₃, e₂, e₁, pull}
 use Rattle.crc32c.proofs.Xor.{xor4}
 use Rattle.crc32c.proofs.Shifts.{shifts-xor, shift-xor, shift-even, shift-shifts, shifts-zero}
 
@@ -23,26 +23,26 @@ pull-same k f g j h =
 pub pull-xor : (k : ℕ) (f g : ℕ → ℕ) (j : ℕ) → pull k (λ i. bitXor (f i) (g i)) j ≡ bitXor (pull k f j) (pull k g j)
 unfolding pull
 pull-xor k f g j =
-    ap (bitXor (bitXor (f (j + 144 * k)) (g (j + 144 * k))))
-    (ap (bitXor (bitXor (f (j + 54 * k)) (g (j + 54 * k))))
-    (ap (bitXor (bitXor (f (j + 39 * k)) (g (j + 39 * k)))) (xor4 (f (j + 14 * k)) (g (j + 14 * k)) (f j) (g j))
-    ∙ xor4 (f (j + 39 * k)) (g (j + 39 * k)) _ _)
-    ∙ xor4 (f (j + 54 * k)) (g (j + 54 * k)) _ _)
-    ∙ xor4 (f (j + 144 * k)) (g (j + 144 * k)) _ _
+    ap (bitXor (bitXor (f (j + e₄ * k)) (g (j + e₄ * k))))
+    (ap (bitXor (bitXor (f (j + e₃ * k)) (g (j + e₃ * k))))
+    (ap (bitXor (bitXor (f (j + e₂ * k)) (g (j + e₂ * k)))) (xor4 (f (j + e₁ * k)) (g (j + e₁ * k)) (f j) (g j))
+    ∙ xor4 (f (j + e₂ * k)) (g (j + e₂ * k)) _ _)
+    ∙ xor4 (f (j + e₃ * k)) (g (j + e₃ * k)) _ _)
+    ∙ xor4 (f (j + e₄ * k)) (g (j + e₄ * k)) _ _
 
 pub pull-shifts : (k n : ℕ) (f : ℕ → ℕ) (j : ℕ) → pull k (λ i. shifts n (f i)) j ≡ shifts n (pull k f j)
 unfolding pull
 pull-shifts k n f j =
-    sym (shifts-xor n (f (j + 144 * k)) _
-    ∙ ap (bitXor (shifts n (f (j + 144 * k)))) (shifts-xor n (f (j + 54 * k)) _
-    ∙ ap (bitXor (shifts n (f (j + 54 * k)))) (shifts-xor n (f (j + 39 * k)) _
-    ∙ ap (bitXor (shifts n (f (j + 39 * k)))) (shifts-xor n (f (j + 14 * k)) (f j)))))
+    sym (shifts-xor n (f (j + e₄ * k)) _
+    ∙ ap (bitXor (shifts n (f (j + e₄ * k)))) (shifts-xor n (f (j + e₃ * k)) _
+    ∙ ap (bitXor (shifts n (f (j + e₃ * k)))) (shifts-xor n (f (j + e₂ * k)) _
+    ∙ ap (bitXor (shifts n (f (j + e₂ * k)))) (shifts-xor n (f (j + e₁ * k)) (f j)))))
 
 -- from place a on
 pub pull-at : (k a : ℕ) (f : ℕ → ℕ) (j : ℕ) → pull k (λ i. f (a + i)) j ≡ pull k f (a + j)
 unfolding pull
 pull-at k a f j =
-    ap₂ bitXor (ap f (at 144)) (ap₂ bitXor (ap f (at 54)) (ap₂ bitXor (ap f (at 39)) (ap₂ bitXor (ap f (at 14)) refl)))
+    ap₂ bitXor (ap f (at e₄)) (ap₂ bitXor (ap f (at e₃)) (ap₂ bitXor (ap f (at e₂)) (ap₂ bitXor (ap f (at e₁)) refl)))
   where
     at : (m : ℕ) → a + (j + m * k) ≡ a + j + m * k
     at m = omega arith
@@ -50,22 +50,22 @@ pull-at k a f j =
 -- ---- the sum of the register's six places
 
 abbrev pub six : ℕ → ℕ → ℕ
-six k x = bitXor (shifts (8 * (209 * k)) x) (pull k (λ i. shifts (8 * i) x) 0)
+six k x = bitXor (shifts (8 * (degree * k)) x) (pull k (λ i. shifts (8 * i) x) 0)
 
 six-xor : (k x y : ℕ) → six k (bitXor x y) ≡ bitXor (six k x) (six k y)
 six-xor k x y =
-    ap₂ bitXor (shifts-xor (8 * (209 * k)) x y)
+    ap₂ bitXor (shifts-xor (8 * (degree * k)) x y)
     (pull-same k (λ i. shifts (8 * i) (bitXor x y)) (λ i. bitXor (shifts (8 * i) x) (shifts (8 * i) y)) 0 (λ i. shifts-xor (8 * i) x y)
     ∙ pull-xor k (λ i. shifts (8 * i) x) (λ i. shifts (8 * i) y) 0)
-    ∙ xor4 (shifts (8 * (209 * k)) x) (shifts (8 * (209 * k)) y) _ _
+    ∙ xor4 (shifts (8 * (degree * k)) x) (shifts (8 * (degree * k)) y) _ _
 
 six-shift : (k x : ℕ) → six k (shift x) ≡ shift (six k x)
 unfolding shifts
 six-shift k x =
-    ap₂ bitXor (sym (shift-shifts (8 * (209 * k)) x))
+    ap₂ bitXor (sym (shift-shifts (8 * (degree * k)) x))
     (pull-same k (λ i. shifts (8 * i) (shift x)) (λ i. shift (shifts (8 * i) x)) 0 (λ i. sym (shift-shifts (8 * i) x))
     ∙ pull-shifts k 1 (λ i. shifts (8 * i) x) 0)
-    ∙ sym (shift-xor (shifts (8 * (209 * k)) x) _)
+    ∙ sym (shift-xor (shifts (8 * (degree * k)) x) _)
 
 -- what holds at the top bit, by computation
 abbrev pub Top : ℕ → Type 0
@@ -75,11 +75,11 @@ module _ (k : ℕ) (top : Top k) where
   six-zero : six k 0 ≡ 0
   unfolding pull
   six-zero =
-      ap₂ bitXor (shifts-zero (8 * (209 * k)))
-      (ap₂ bitXor (shifts-zero (8 * (0 + 144 * k)))
-      (ap₂ bitXor (shifts-zero (8 * (0 + 54 * k)))
-      (ap₂ bitXor (shifts-zero (8 * (0 + 39 * k)))
-      (ap₂ bitXor (shifts-zero (8 * (0 + 14 * k))) (shifts-zero (8 * 0))))))
+      ap₂ bitXor (shifts-zero (8 * (degree * k)))
+      (ap₂ bitXor (shifts-zero (8 * (0 + e₄ * k)))
+      (ap₂ bitXor (shifts-zero (8 * (0 + e₃ * k)))
+      (ap₂ bitXor (shifts-zero (8 * (0 + e₂ * k)))
+      (ap₂ bitXor (shifts-zero (8 * (0 + e₁ * k))) (shifts-zero (8 * 0))))))
 
   six-bit : (b : ℕ) → b < 2 → six k (b * 2 ^ 31) ≡ 0
   six-bit zero h = six-zero

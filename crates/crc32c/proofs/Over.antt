@@ -54,6 +54,10 @@ over-from n c f =
     ap (λ (x : ℕ). over x f n) (sym (xor-zero-r c)) ∙ over-xor n c 0 (λ j. 0) f
     ∙ ap (λ (x : ℕ). bitXor x (over 0 f n)) (over-none n c)
 
+pub fed-from : (c : ℕ) (l : List ℕ) → fed c l ≡ bitXor (shifts (8 * length l) c) (fed 0 l)
+fed-from c l =
+    sym (over-fed l c) ∙ over-from (length l) c (λ j. getD l j 0) ∙ ap (bitXor (shifts (8 * length l) c)) (over-fed l 0)
+
 -- zero bytes before leave 0
 pub over-late : (d n : ℕ) (f : ℕ → ℕ) → ((j : ℕ) → j < d → f j ≡ 0) → over 0 f (d + n) ≡ over 0 (λ j. f (d + j)) n
 over-late d n f h =

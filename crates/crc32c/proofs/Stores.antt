@@ -10,7 +10,7 @@ use lib.ListN.{length, getD, set, take, drop, replicate, length-drop, length-set
 use lib.Seq.{getD-set-same, getD-set-other, getD-take, getD-drop, length-take-le, ext-getD}
 use Rattle.endian.specs.Numbers.{Bytes}
 use Rattle.endian.proofs.Bytes.{bytes-zeros, bytes-cons}
-use Rattle.crc32c.specs.Sparse.{pull, Filled, Room}
+use Rattle.crc32c.specs.Sparse.{degree, e₄, e₃, e₂, e₁, historyBytes, chunkBytes, bufferBytes, pull, Filled, Room}
 
 -- the first k elements are those of g; those from k on are
 abbrev pub Below : List ℕ → (ℕ → ℕ) → ℕ → Type 0
@@ -35,57 +35,57 @@ pub above-more : (l : List ℕ) (g : ℕ → ℕ) (k v : ℕ) → Above l g k �
 above-more l g k v u m hm = other l k m v (λ q. let z : m ≡ k = q in absurd (omega arith)) ∙ u m (omega arith)
 
 -- a store behind the history changes nothing that goes into an earlier byte, or into its own
-pull-set : (k j m v : ℕ) (p : List ℕ) → 0 < k → m ≤ j → pull k (λ i. getD (set p (j + 209 * k) v) i 0) m ≡ pull k (λ i. getD p i 0) m
+pull-set : (k j m v : ℕ) (p : List ℕ) → 0 < k → m ≤ j → pull k (λ i. getD (set p (j + degree * k) v) i 0) m ≡ pull k (λ i. getD p i 0) m
 unfolding pull
 pull-set k j m v p hk h =
-    ap₂ bitXor (at (m + 144 * k) (omega arith))
-    (ap₂ bitXor (at (m + 54 * k) (omega arith))
-    (ap₂ bitXor (at (m + 39 * k) (omega arith)) (ap₂ bitXor (at (m + 14 * k) (omega arith)) (at m (omega arith)))))
+    ap₂ bitXor (at (m + e₄ * k) (omega arith))
+    (ap₂ bitXor (at (m + e₃ * k) (omega arith))
+    (ap₂ bitXor (at (m + e₂ * k) (omega arith)) (ap₂ bitXor (at (m + e₁ * k) (omega arith)) (at m (omega arith)))))
   where
-    at : (i : ℕ) → i < j + 209 * k → getD (set p (j + 209 * k) v) i 0 ≡ getD p i 0
-    at i l = other p (j + 209 * k) i v (λ q. let z : i ≡ j + 209 * k = q in absurd (omega arith))
+    at : (i : ℕ) → i < j + degree * k → getD (set p (j + degree * k) v) i 0 ≡ getD p i 0
+    at i l = other p (j + degree * k) i v (λ q. let z : i ≡ j + degree * k = q in absurd (omega arith))
 
 pub filled-none : (k : ℕ) (h s : List ℕ) → Filled k 0 h s h
 filled-none k h s = record { front = λ i l. refl; each = λ j l. absurd (omega arith) }
 
-pub filled-more : (k j v : ℕ) (h s p : List ℕ) → 0 < k → j + 209 * k < length p → v ≡ bitXor (getD s j 0) (pull k (λ i. getD p i 0) j)
-    → Filled k j h s p → Filled k (j + 1) h s (set p (j + 209 * k) v)
+pub filled-more : (k j v : ℕ) (h s p : List ℕ) → 0 < k → j + degree * k < length p → v ≡ bitXor (getD s j 0) (pull k (λ i. getD p i 0) j)
+    → Filled k j h s p → Filled k (j + 1) h s (set p (j + degree * k) v)
 filled-more k j v h s p hk hl e f = record { front = λ i l. front i l; each = λ m l. each m l }
   where
-    front : (i : ℕ) → i < 209 * k → getD (set p (j + 209 * k) v) i 0 ≡ getD h i 0
-    front i l = other p (j + 209 * k) i v (λ q. let z : i ≡ j + 209 * k = q in absurd (omega arith)) ∙ f .front i l
+    front : (i : ℕ) → i < degree * k → getD (set p (j + degree * k) v) i 0 ≡ getD h i 0
+    front i l = other p (j + degree * k) i v (λ q. let z : i ≡ j + degree * k = q in absurd (omega arith)) ∙ f .front i l
 
-    old : (m : ℕ) → m < j → getD (set p (j + 209 * k) v) (m + 209 * k) 0 ≡ bitXor (getD s m 0) (pull k (λ i. getD (set p (j + 209 * k) v) i 0) m)
+    old : (m : ℕ) → m < j → getD (set p (j + degree * k) v) (m + degree * k) 0 ≡ bitXor (getD s m 0) (pull k (λ i. getD (set p (j + degree * k) v) i 0) m)
     old m l =
-        other p (j + 209 * k) (m + 209 * k) v (λ q. let z : m + 209 * k ≡ j + 209 * k = q in absurd (omega arith))
+        other p (j + degree * k) (m + degree * k) v (λ q. let z : m + degree * k ≡ j + degree * k = q in absurd (omega arith))
         ∙ f .each m l ∙ ap (bitXor (getD s m 0)) (sym (pull-set k j m v p hk (omega arith)))
 
-    new : getD (set p (j + 209 * k) v) (j + 209 * k) 0 ≡ bitXor (getD s j 0) (pull k (λ i. getD (set p (j + 209 * k) v) i 0) j)
-    new = getD-set-same p (j + 209 * k) v 0 hl ∙ e ∙ ap (bitXor (getD s j 0)) (sym (pull-set k j j v p hk (omega arith)))
+    new : getD (set p (j + degree * k) v) (j + degree * k) 0 ≡ bitXor (getD s j 0) (pull k (λ i. getD (set p (j + degree * k) v) i 0) j)
+    new = getD-set-same p (j + degree * k) v 0 hl ∙ e ∙ ap (bitXor (getD s j 0)) (sym (pull-set k j j v p hk (omega arith)))
 
-    each : (m : ℕ) → m < j + 1 → getD (set p (j + 209 * k) v) (m + 209 * k) 0 ≡ bitXor (getD s m 0) (pull k (λ i. getD (set p (j + 209 * k) v) i 0) m)
+    each : (m : ℕ) → m < j + 1 → getD (set p (j + degree * k) v) (m + degree * k) 0 ≡ bitXor (getD s m 0) (pull k (λ i. getD (set p (j + degree * k) v) i 0) m)
     each m l = elim (decLt m j) [ yes b ↦ old m b | no b ↦ at-j b ]
       where
-        at-j : (m < j → ⊥) → getD (set p (j + 209 * k) v) (m + 209 * k) 0 ≡ bitXor (getD s m 0) (pull k (λ i. getD (set p (j + 209 * k) v) i 0) m)
+        at-j : (m < j → ⊥) → getD (set p (j + degree * k) v) (m + degree * k) 0 ≡ bitXor (getD s m 0) (pull k (λ i. getD (set p (j + degree * k) v) i 0) m)
         at-j b =
             let z : m ≡ j = omega arith in
-            ap (λ (n : ℕ). getD (set p (j + 209 * k) v) (n + 209 * k) 0) z ∙ new
-            ∙ ap (λ (n : ℕ). bitXor (getD s n 0) (pull k (λ i. getD (set p (j + 209 * k) v) i 0) n)) (sym z)
+            ap (λ (n : ℕ). getD (set p (j + degree * k) v) (n + degree * k) 0) z ∙ new
+            ∙ ap (λ (n : ℕ). bitXor (getD s n 0) (pull k (λ i. getD (set p (j + degree * k) v) i 0) n)) (sym z)
 
 -- what a loop moved to the front
-pub moved : (h p : List ℕ) → Room 2402 h → Room 2402 p → Below p (λ m. getD h (m + 1984) 0) 418 → take 418 p ≡ take 418 (drop 1984 h)
+pub moved : (h p : List ℕ) → Room bufferBytes h → Room bufferBytes p → Below p (λ m. getD h (m + chunkBytes) 0) historyBytes → take historyBytes p ≡ take historyBytes (drop chunkBytes h)
 moved h p rh rp below =
-    let lh : length h ≡ 2402 = rh .size in
-    let lp : length p ≡ 2402 = rp .size in
-    let ep : length (take 418 p) ≡ 418 = length-take-le 418 p (omega arith) in
-    let eh : length (take 418 (drop 1984 h)) ≡ 418 = length-take-le 418 (drop 1984 h) (simp length-drop (omega arith)) in
-    ext-getD 0 (take 418 p) (take 418 (drop 1984 h)) (omega arith) (λ i l. at i (omega arith))
+    let lh : length h ≡ bufferBytes = rh .size in
+    let lp : length p ≡ bufferBytes = rp .size in
+    let ep : length (take historyBytes p) ≡ historyBytes = length-take-le historyBytes p (omega arith) in
+    let eh : length (take historyBytes (drop chunkBytes h)) ≡ historyBytes = length-take-le historyBytes (drop chunkBytes h) (simp length-drop (omega arith)) in
+    ext-getD 0 (take historyBytes p) (take historyBytes (drop chunkBytes h)) (omega arith) (λ i l. at i (omega arith))
   where
-    at : (i : ℕ) → i < 418 → getD (take 418 p) i 0 ≡ getD (take 418 (drop 1984 h)) i 0
+    at : (i : ℕ) → i < historyBytes → getD (take historyBytes p) i 0 ≡ getD (take historyBytes (drop chunkBytes h)) i 0
     at i b =
-        let e : i + 1984 ≡ 1984 + i = omega arith in
-        getD-take 418 p i 0 b ∙ below i b ∙ ap (λ (m : ℕ). getD h m 0) e
-        ∙ sym (getD-take 418 (drop 1984 h) i 0 b ∙ getD-drop 1984 h i 0)
+        let e : i + chunkBytes ≡ chunkBytes + i = omega arith in
+        getD-take historyBytes p i 0 b ∙ below i b ∙ ap (λ (m : ℕ). getD h m 0) e
+        ∙ sym (getD-take historyBytes (drop chunkBytes h) i 0 b ∙ getD-drop chunkBytes h i 0)
 
 -- ---- bytes stay bytes
 

@@ -1,4 +1,4 @@
--- How a transaction of an accepted log ends, by looking forward from one of its entries, and answers that are kept.
+-- Internal: how a transaction of an accepted log ends, by looking forward from one of its entries, and answers that are kept.
 use Prim.Native.Nat.{ℕ, _+_, _/_, _%_, _≤_, _<_}
 use mathlib.Core.Path.{_≡_}
 use mathlib.Core.List.{List, [], _∷_}

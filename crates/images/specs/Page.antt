@@ -1,4 +1,4 @@
--- What is known of one page once its slots are decided.
+-- Internal: what is known of one page once its slots are decided.
 use Prim.Native.Nat.{ℕ, _+_, _≤_, _<_}
 use mathlib.Core.Path.{_≡_}
 use mathlib.Core.List.{List}

@@ -1,4 +1,4 @@
--- The tuple that an image stands for.
+-- Internal: the tuple that an image stands for.
 use Prim.Native.Nat.{ℕ, _+_, _≤_}
 use mathlib.Core.Path.{_≡_}
 use mathlib.Core.Bool.{true, false}

@@ -19,9 +19,9 @@ use Rattle.wal.proofs.Reading.{the-type}
 use Rattle.wal.proofs.WalkLaws.{EntryAt, entry-at, stops}
 use Rattle.wal.proofs.Places.{size-of}
 use Rattle.wal.proofs.Prefix.{entry-in, stands, stands-at, met-first, met-next, before-first, before-next, onward-first, onward-next, met-last}
-use Rattle.page.specs.Fault.{verdict, accepted}
-use Rattle.page.specs.declared.Verdict.{Verdict}
-use Rattle.rules.specs.Order.{one, count, isBegin, lastLsn, orElse, endVerdict, _then_}
+use Rattle.refusals.specs.Verdict.{verdict, accepted, _then_}
+use Rattle.refusals.specs.declared.Verdict.{Verdict}
+use Rattle.rules.specs.Order.{one, count, isBegin, lastLsn, orElse, endVerdict}
 use Rattle.rules.proofs.OrderLaws.{last-snoc}
 use Rattle.rules.proofs.Counts.{count-snoc}
 use Rattle.order.specs.State.{stateOf, basicAfter, basicFault, basicFrom}

@@ -9,9 +9,10 @@ use lib.Dec.{ltb, eqb, eqb·suc-zero}
 use borrow.Author.Tests.{eqb-true}
 use Rattle.endian.specs.Pick.{pick}
 use Rattle.wal.specs.Entry.{Entry, sizeOf, begin, insert, delete, update}
-use Rattle.page.specs.declared.Verdict.{Verdict}
+use Rattle.refusals.specs.declared.Verdict.{Verdict}
 use Rattle.rules.specs.Shape.{both, either, isKnown, isChanging, isShaped, isOn, pageOf, sameSlot}
-use Rattle.rules.specs.Order.{any, count, isBegin, lastLsn, inOrder, clashes, faultAfter, orElse, orderFrom, _then_}
+use Rattle.refusals.specs.Verdict.{_then_}
+use Rattle.rules.specs.Order.{any, count, isBegin, lastLsn, inOrder, clashes, faultAfter, orElse, orderFrom}
 use Rattle.rules.proofs.Tests.{into, past, both-true, both-none}
 use Rattle.order.specs.State.{stateOf, ordered, basicFault, basicAfter, basicFrom}
 use Rattle.order.specs.Clash.{clashAfter, clashFrom, passed}

@@ -1,4 +1,4 @@
--- Clashes, by the newest change on a slot.
+-- Internal: clashes, by the newest change on a slot.
 use Prim.Native.Nat.{ℕ, zero, suc, _+_}
 use mathlib.Core.List.{List, [], _∷_, _++_}
 use mathlib.Core.Bool.{Bool, true, false, not}
@@ -6,8 +6,8 @@ use lib.Dec.{eqb}
 use Rattle.refusals.specs.Refusal.{clash}
 use Rattle.endian.specs.Pick.{pick}
 use Rattle.wal.specs.Entry.{Entry, sizeOf}
-use Rattle.page.specs.Fault.{verdict, accepted}
-use Rattle.page.specs.declared.Verdict.{Verdict}
+use Rattle.refusals.specs.Verdict.{verdict, accepted}
+use Rattle.refusals.specs.declared.Verdict.{Verdict}
 use Rattle.rules.specs.Shape.{both, sameSlot}
 use Rattle.order.specs.State.{stateOf, basicAfter}
 

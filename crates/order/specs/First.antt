@@ -1,4 +1,4 @@
--- The first walk over a log: up to its end or to the first entry that breaks another rule than that on clashes.
+-- Internal: the first walk over a log: up to its end or to the first entry that breaks another rule than that on clashes.
 use Prim.Native.Nat.{ℕ, zero}
 use mathlib.Core.Path.{_≡_}
 use mathlib.Core.List.{List, []}
@@ -11,10 +11,10 @@ use Rattle.wal.specs.Walk.{entries, endOf, endingOf}
 use Rattle.wal.specs.Prefix.{Met, before}
 use Rattle.wal.specs.declared.Reading.{Reading}
 use Rattle.wal.specs.declared.Reading.the-variants.{Whole, End, Torn, Damage}
-use Rattle.page.specs.Fault.{verdict, accepted}
-use Rattle.page.specs.declared.Verdict.{Verdict}
+use Rattle.refusals.specs.Verdict.{verdict, accepted, _then_}
+use Rattle.refusals.specs.declared.Verdict.{Verdict}
 use Rattle.rules.specs.Shape.{both}
-use Rattle.rules.specs.Order.{lastLsn, endVerdict, _then_}
+use Rattle.rules.specs.Order.{lastLsn, endVerdict}
 use Rattle.order.specs.State.{basicFrom}
 use Rattle.order.specs.Clash.{passed}
 use Rattle.order.specs.declared.Walked.{Walked}

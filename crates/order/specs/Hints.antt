@@ -1,4 +1,4 @@
--- What a walk keeps of transactions, for each remainder of their numbers: a place that tells their states, and a number that none met exceeds.
+-- Internal: what a walk keeps of transactions, for each remainder of their numbers: a place that tells their states, and a number that none met exceeds.
 use Prim.Native.Nat.{ℕ, zero, _%_, _<_, max}
 use mathlib.Core.Path.{_≡_}
 use mathlib.Core.List.{List}

@@ -1,4 +1,4 @@
--- The order rules but for clashes, by what a walk over the log keeps: the state of a transaction is told by its newest entry.
+-- Internal: the order rules but for clashes, by what a walk over the log keeps: the state of a transaction is told by its newest entry.
 use Prim.Native.Nat.{ℕ, zero, suc, _+_}
 use mathlib.Core.List.{List, [], _∷_, _++_}
 use mathlib.Core.Bool.{Bool, true, false}
@@ -6,8 +6,8 @@ use lib.Dec.{ltb, eqb}
 use Rattle.refusals.specs.Refusal.{entryType, entryShape, lsnOrder, transactionOrder, noRecord}
 use Rattle.endian.specs.Pick.{pick}
 use Rattle.wal.specs.Entry.{Entry, sizeOf, begin, commit, rollback, checkpoint}
-use Rattle.page.specs.Fault.{accepted}
-use Rattle.page.specs.declared.Verdict.{Verdict}
+use Rattle.refusals.specs.Verdict.{accepted}
+use Rattle.refusals.specs.declared.Verdict.{Verdict}
 use Rattle.rules.specs.Shape.{both, either, isKnown, isChanging, isShaped}
 use Rattle.rules.specs.Order.{count, isBegin, lastLsn, orElse}
 

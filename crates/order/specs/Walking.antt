@@ -1,4 +1,4 @@
--- What the first walk knows on its way, at a place of the log.
+-- Internal: what the first walk knows on its way, at a place of the log.
 use Prim.Native.Nat.{ℕ, _≤_}
 use mathlib.Core.Path.{_≡_}
 use mathlib.Core.List.{List, [], _++_}

@@ -7,11 +7,13 @@ pub mod Pasting
 pub mod Packing
 pub mod Parts
 pub mod Listing
+pub mod RowLists
 pub mod Visibility
 pub mod Mapping
 pub mod Picks
 pub mod Reading
 pub mod SlotLaws
+pub mod GranuleLaws
 pub mod FaultLaws
 pub mod Verdicts
 pub mod FaultCases

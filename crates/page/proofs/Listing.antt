@@ -14,11 +14,12 @@ use types.Run.{OneOf, miss}
 use denote.Enum.Declared.{tagOf}
 use Rattle.endian.specs.Pick.{pick, consIf}
 use Rattle.page.specs.Layout.{dataType, pageAt, typeOf, countOf, slotAt}
-use Rattle.page.specs.Rows.{visible, row, slotRows, pageRows, rowsFrom, visibleRows, atOrAfter, firstAt, nextRow}
+use Rattle.page.specs.Rows.{visible, row, slotRows, pageRows, rowsFrom, visibleRows, atOrAfter, firstAt, nextRow, Listable}
 use Rattle.page.specs.Fault.{verdictOf}
 use Rattle.page.specs.declared.Row.{Row}
 use Rattle.page.specs.declared.NextRow.{NextRow}
 use Rattle.page.specs.declared.NextRow.the-variants.{Refused, At, NoMore}
+use Rattle.page.proofs.Verdicts.{accepted-good}
 use Rattle.page.proofs.NextRow.{the-type}
 
 -- as a `let .. else` on the answer finds it
@@ -207,6 +208,10 @@ module _ (i k : ℕ) where
     page-found h = ap (firstAt i k) one-page ∙ some-then i k (pageRows i (pageAt i s)) (rowsFrom s (n - (i + 1)) (i + 1)) h
 
 -- ---- the whole answer
+
+-- pages that verification accepts
+pub listable : (magic : ℕ) (s : List ℕ) → verdictOf magic s .number ≡ 0 → Listable s
+listable magic s e = record { at = λ i l t. accepted-good magic s e i l .dataGood t }
 
 module _ (magic : ℕ) (s : List ℕ) (i k : ℕ) where
   pub listing-refused : (verdictOf magic s .number ≡ 0 → ⊥) → Refused (verdictOf magic s) ≡ nextRow magic s i k

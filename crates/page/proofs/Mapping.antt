@@ -1,22 +1,26 @@
 -- The map of free pages: its bits, bytes and count, step by step, and the whole answer.
 -- Assumes nothing.
-use mathlib.Core.Path.{_≡_, refl, sym, ap, _∙_}
-use Prim.Native.Nat.{ℕ, zero, suc, _+_, _-_, _*_, _^_, _≤_, _<_}
+use mathlib.Core.Path.{_≡_, refl, sym, ap, ap₂, _∙_}
+use Prim.Native.Nat.{ℕ, zero, suc, _+_, _-_, _*_, _/_, _%_, _^_, _≤_, _<_}
 use native.Mathlib.Nat.{pow-suc}
 use native.Mathlib.Numerals.{add-one}
 use native.Mathlib.Omega.{arith}
 use mathlib.Core.List.{List, [], _∷_, _++_}
 use mathlib.Core.Bool.{Bool, true, false}
 use lib.Dec.{ltb, eqb}
-use lib.ListN.{length, drop, set, getD}
-use lib.Seq.{drop-cons, set-at, append-snoc}
+use lib.ListN.{length, take, drop, set, getD, take-append-drop, length-drop, length-append}
+use lib.Seq.{drop-cons, set-at, append-snoc, take-add, take-at}
+use lib.Count.{ones, ones-step, ones-cat, ones-le}
 use lib.Pow.{pow-mono}
 use borrow.Author.Tests.{lt-ltb, le-ltb, eq-eqb, ne-eqb}
 use Rattle.endian.specs.Pick.{pick}
+use Rattle.endian.specs.Numbers.{numberOf, numberAt, Bytes}
+use Rattle.endian.proofs.Bytes.{bytes-take, bytes-drop, number-range, number-below}
 use Rattle.page.specs.Layout.{pageBytes, freeType, pagesIn, pageAt, typeOf}
-use Rattle.page.specs.Fault.{verdict, verdictOf}
-use Rattle.page.specs.declared.Verdict.{Verdict}
-use Rattle.page.specs.FreeMap.{freeBit, bits, mapBytes, mapLength, freePages, mapVerdict, mapAfter, freeCount}
+use Rattle.refusals.specs.Verdict.{verdict}
+use Rattle.page.specs.Fault.{verdictOf}
+use Rattle.refusals.specs.declared.Verdict.{Verdict}
+use Rattle.page.specs.FreeMap.{freeBit, bits, mapBytes, onesOf, mapLength, freePages, mapVerdict, mapAfter, freeCount}
 use Rattle.page.proofs.Reading.{type-at}
 
 -- ---- a page's bit
@@ -71,6 +75,10 @@ module _ (s : List ℕ) where
   length-bytes zero i = refl
   length-bytes (suc n) i = ap suc (length-bytes n (i + 8))
 
+  -- the lent map keeps its length
+  pub length-filled : (d : List ℕ) (n : ℕ) → n ≤ length d → length (mapBytes s n 0 ++ drop n d) ≡ length d
+  length-filled d n l = length-append (mapBytes s n 0) (drop n d) ∙ omega (arith, length-bytes n 0, length-drop n d)
+
   bytes-more : (n i : ℕ) → mapBytes s (suc n) i ≡ mapBytes s n i ++ (bits s 8 (i + 8 * n) ∷ [])
   unfolding mapBytes
   bytes-more zero i = let e : i + 8 * 0 ≡ i = omega arith in rw e
@@ -85,16 +93,75 @@ module _ (s : List ℕ) where
 
   -- ---- the count
 
-  pub pages-counted : (n i : ℕ) → i < n → freePages s (n - i) i ≡ freeBit s i + freePages s (n - (i + 1)) (i + 1)
-  unfolding freePages
-  pages-counted n i l = let e : n - i ≡ suc (n - (i + 1)) = omega arith in rw (e, add-one)
+  -- a number of k bits has as many ones as there are free pages among its k
+  ones-bits : (k i : ℕ) → ones (bits s k i) ≡ freePages s k i
+  unfolding bits freePages ones
+  ones-bits zero i = refl
+  ones-bits (suc k) i =
+      let b = bit-small i in
+      let h : (freeBit s i + 2 * bits s k (suc i)) % 2 ≡ freeBit s i = omega arith in
+      let q : (freeBit s i + 2 * bits s k (suc i)) / 2 ≡ bits s k (suc i) = omega arith in
+      ones-step (freeBit s i + 2 * bits s k (suc i)) ∙ ap₂ (λ (x y : ℕ). x + ones y) h q ∙ ap (λ (x : ℕ). freeBit s i + x) (ones-bits k (suc i))
 
-  pub pages-start : (n : ℕ) → freePages s (n - 0) 0 ≡ freePages s n 0
-  pages-start n = let e : n - 0 ≡ n = omega arith in rw e
-
-  pub pages-none : (n i : ℕ) → n ≤ i → freePages s (n - i) i ≡ 0
+  pages-join : (m n i : ℕ) → freePages s (m + n) i ≡ freePages s m i + freePages s n (i + m)
   unfolding freePages
-  pages-none n i l = let e : n - i ≡ 0 = omega arith in rw e
+  pages-join zero n i = let e : i + 0 ≡ i = omega arith in let z : 0 + n ≡ n = omega arith in rw (e, z) (omega arith)
+  pages-join (suc m) n i =
+      let e : i + suc m ≡ suc i + m = omega arith in
+      let z : suc m + n ≡ suc (m + n) = omega arith in
+      rw (e, z) (omega (arith, pages-join m n (suc i)))
+
+  ones-bytes : (n i : ℕ) → onesOf (mapBytes s n i) ≡ freePages s (8 * n) i
+  unfolding onesOf mapBytes freePages
+  ones-bytes zero i = let e : 8 * 0 ≡ 0 = omega arith in rw e refl
+  ones-bytes (suc n) i =
+      let e : 8 * suc n ≡ 8 + 8 * n = omega arith in
+      rw (ones-bits 8 i, ones-bytes n (i + 8), e) (sym (pages-join 8 (8 * n) i))
+
+  -- no page is free behind the last
+  pages-past : (n i : ℕ) → pagesIn s ≤ i → freePages s n i ≡ 0
+  unfolding freePages
+  pages-past zero i l = refl
+  pages-past (suc n) i l = omega (arith, bit-past s i l, pages-past n (suc i) (omega arith))
+
+  -- the ones of the finished map are the free pages
+  pub map-ones : onesOf (mapBytes s (mapLength s) 0) ≡ freePages s (pagesIn s) 0
+  map-ones =
+      let e : 8 * mapLength s ≡ pagesIn s + (8 * mapLength s - pagesIn s) = omega arith in
+      ones-bytes (mapLength s) 0 ∙ ap (λ (n : ℕ). freePages s n 0) e ∙ pages-join (pagesIn s) (8 * mapLength s - pagesIn s) 0
+      ∙ omega (arith, pages-past (8 * mapLength s - pagesIn s) (0 + pagesIn s) (omega arith))
+
+-- ---- the ones of bytes
+
+ones-join : (a b : List ℕ) → onesOf (a ++ b) ≡ onesOf a + onesOf b
+unfolding onesOf
+ones-join [] b = omega arith
+ones-join (x ∷ a) b = rw (ones-join a b) (omega arith)
+
+-- bytes read as one number have the ones of the bytes
+pub ones-number : (l : List ℕ) → Bytes l → ones (numberOf l) ≡ onesOf l
+unfolding onesOf numberOf ones
+ones-number [] b = refl
+ones-number (x ∷ l) b =
+    let e : x + 256 * numberOf l ≡ numberOf l * 2 ^ 8 + x = omega arith in
+    ap ones e ∙ ones-cat 8 (numberOf l) x (b .at 0) ∙ ap (λ (n : ℕ). n + ones x) (ones-number l (record { at = λ i. b .at (suc i) })) ∙ omega arith
+
+module _ {s : List ℕ} (b : Bytes s) where
+  -- a step over w bytes
+  pub ones-next : (w i n : ℕ) → n ≡ onesOf (take i s) → n + ones (numberAt w i s) ≡ onesOf (take (i + w) s)
+  unfolding numberAt
+  ones-next w i n e = rw (e, take-add i w s, ones-join (take i s) (take w (drop i s)), ones-number (take w (drop i s)) (bytes-take w (bytes-drop i b)))
+
+  pub word-small : (i : ℕ) → ones (numberAt 8 i s) ≤ 64
+  word-small i = ones-le 64 (numberAt 8 i s) (number-range 8 i b)
+
+  pub rest-small : (i : ℕ) → length s < i + 8 → ones (numberOf (drop i s)) ≤ 64
+  rest-small i l = ones-le 64 (numberOf (drop i s)) (number-below 8 (bytes-drop i b) (simp length-drop (omega arith)))
+
+  -- and the bytes that are left
+  pub ones-last : (i n : ℕ) → n ≡ onesOf (take i s) → n + ones (numberOf (drop i s)) ≡ onesOf s
+  ones-last i n e =
+      rw (e, ones-number (drop i s) (bytes-drop i b)) (sym (ones-join (take i s) (drop i s)) ∙ ap onesOf (take-append-drop i s))
 
 -- ---- the whole answer
 
@@ -115,9 +182,12 @@ module _ (magic : ℕ) (s map : List ℕ) (v : Verdict) (verified : v ≡ verdic
         let g = lt-ltb _ _ l in
         (rw (e, g), (rw (e, g), rw (e, g)))
 
-    pub map-filled : mapLength s ≤ length map → Mapped magic s map (verdict 0 0) (freePages s (pagesIn s) 0) (mapBytes s (mapLength s) 0 ++ drop (mapLength s) map)
+    -- the count is read off the finished map
+    pub map-filled : mapLength s ≤ length map
+        → (let after = mapBytes s (mapLength s) 0 ++ drop (mapLength s) map in Mapped magic s map (verdict 0 0) (onesOf (take (mapLength s) after)) after)
     unfolding mapVerdict freeCount mapAfter
     map-filled l =
         let e = eq-eqb _ _ (rw verified at a) in
         let g = le-ltb _ _ l in
-        (rw (e, g), (rw (e, g), rw (e, g)))
+        let t = take-at (mapBytes s (mapLength s) 0) (drop (mapLength s) map) (mapLength s) (length-bytes s (mapLength s) 0) in
+        (rw (e, g), (rw (e, g) (ap onesOf t ∙ map-ones s), rw (e, g)))

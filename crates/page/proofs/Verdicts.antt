@@ -15,12 +15,14 @@ use borrow.Author.Tests.{le-ltb, eq-eqb, ne-eqb, ltb-false, eqb-true}
 use types.Run.{OneOf, miss}
 use denote.Enum.Declared.{tagOf}
 use Rattle.endian.specs.Pick.{pick}
-use Rattle.page.specs.Layout.{pageBytes, pageLimit, pagesIn, pageAt}
+use Rattle.page.specs.Layout.{pageBytes, pageLimit, pagesIn, pageAt, lsnOf}
 use Rattle.page.specs.Good.{Good}
-use Rattle.page.specs.Fault.{faultOf, verdict, accepted, judged, firstBad, sizeWrong, verdictOf}
+use Rattle.refusals.specs.Verdict.{verdict, accepted, _then_}
+use Rattle.refusals.proofs.Then.{then-refused, then-accepted, then-zero}
+use Rattle.page.specs.Fault.{faultOf, faultVerdict, neverLate, pageVerdict, firstBad, sizeWrong, verdictOf}
 use Rattle.page.specs.declared.Fault.{Fault}
 use Rattle.page.specs.declared.Fault.the-variants.{Sound, MagicOrType, Id, Checksum, Count, FreeStart, FreeEnd, Slot}
-use Rattle.page.specs.declared.Verdict.{Verdict}
+use Rattle.refusals.specs.declared.Verdict.{Verdict}
 use Rattle.page.proofs.Fault.{the-type}
 use Rattle.page.proofs.Picks.{never, cleared}
 use Rattle.page.proofs.FaultLaws.{isSound, sound-good, good-sound}
@@ -36,41 +38,80 @@ page-part s i = let e : i * 16384 + 16384 - i * 16384 ≡ 16384 = omega arith in
 
 -- ---- one fault
 
-judge : (f : Fault) (i : ℕ) (v : Verdict) → ((f ≡ Sound) × (judged f i v ≡ v)) ⊎ ((f ≡ Sound → ⊥) × (judged f i v ≡ verdict 11 i))
-judge Sound i v = inl (refl, refl)
-judge MagicOrType i v = inr (λ e. never (ap isSound e), refl)
-judge Id i v = inr (λ e. never (ap isSound e), refl)
-judge Checksum i v = inr (λ e. never (ap isSound e), refl)
-judge Count i v = inr (λ e. never (ap isSound e), refl)
-judge FreeStart i v = inr (λ e. never (ap isSound e), refl)
-judge FreeEnd i v = inr (λ e. never (ap isSound e), refl)
-judge (Slot k) i v = inr (λ e. never (ap isSound e), refl)
+-- only a sound page is not refused
+judge : (f : Fault) (i : ℕ) → ((f ≡ Sound) × (faultVerdict f i ≡ accepted)) ⊎ ((f ≡ Sound → ⊥) × (faultVerdict f i .number ≡ 0 → ⊥))
+judge Sound i = inl (refl, refl)
+judge MagicOrType i = inr (λ e. never (ap isSound e), λ z. omega arith)
+judge Id i = inr (λ e. never (ap isSound e), λ z. omega arith)
+judge Checksum i = inr (λ e. never (ap isSound e), λ z. omega arith)
+judge Count i = inr (λ e. never (ap isSound e), λ z. omega arith)
+judge FreeStart i = inr (λ e. never (ap isSound e), λ z. omega arith)
+judge FreeEnd i = inr (λ e. never (ap isSound e), λ z. omega arith)
+judge (Slot k) i = inr (λ e. never (ap isSound e), λ z. omega arith)
 
 -- as a `let .. else` on the fault finds it
-pub not-sound : (f : Fault) → OneOf (1 ∷ 2 ∷ 3 ∷ 4 ∷ 5 ∷ 6 ∷ 7 ∷ []) (tagOf the-type f) → f ≡ Sound → ⊥
-not-sound f o e = miss (1 ∷ 2 ∷ 3 ∷ 4 ∷ 5 ∷ 6 ∷ 7 ∷ []) 0 tt (rw e at o)
+pub fault-else : (f : Fault) (i : ℕ) → OneOf (1 ∷ 2 ∷ 3 ∷ 4 ∷ 5 ∷ 6 ∷ 7 ∷ []) (tagOf the-type f) → verdict 11 i ≡ faultVerdict f i
+fault-else Sound i o = absurd (miss (1 ∷ 2 ∷ 3 ∷ 4 ∷ 5 ∷ 6 ∷ 7 ∷ []) 0 tt o)
+fault-else MagicOrType i o = refl
+fault-else Id i o = refl
+fault-else Checksum i o = refl
+fault-else Count i o = refl
+fault-else FreeStart i o = refl
+fault-else FreeEnd i o = refl
+fault-else (Slot k) i o = refl
+
+-- ---- one page
+
+module _ (late : ℕ → Bool) (magic i : ℕ) (p : List ℕ) where
+  pub page-fine : pageVerdict late magic i p .number ≡ 0 → (faultOf magic i p ≡ Sound) × (late (lsnOf p) ≡ false)
+  unfolding pageVerdict
+  page-fine e =
+      let z = then-zero (faultVerdict (faultOf magic i p) i) _ e in
+      elim (judge (faultOf magic i p) i) [
+        | inl q ↦ (q .0, by-lsn (late (lsnOf p)) (z .1))
+        | inr q ↦ absurd (q .1 (z .0))
+      ]
+    where
+      by-lsn : (b : Bool) → pick b (verdict 12 i) accepted .number ≡ 0 → b ≡ false
+      by-lsn true h = absurd (omega arith)
+      by-lsn false h = refl
+
+  pub fine-page : faultOf magic i p ≡ Sound → late (lsnOf p) ≡ false → pageVerdict late magic i p ≡ accepted
+  unfolding pageVerdict
+  fine-page e l = rw (e, l)
+
+  -- as code goes through the cases
+  module _ (v : Verdict) (is : v ≡ faultVerdict (faultOf magic i p) i) where
+    pub page-fault : (v .number ≡ 0 → ⊥) → v ≡ pageVerdict late magic i p
+    unfolding pageVerdict
+    page-fault h = sym (rw (← is) (then-refused v _ h))
+
+    module _ (ok : v .number ≡ 0) where
+      pub page-late : late (lsnOf p) ≡ true → verdict 12 i ≡ pageVerdict late magic i p
+      unfolding pageVerdict
+      page-late h = sym (rw (← is, h) (then-accepted v _ ok))
+
+      pub page-known : late (lsnOf p) ≡ false → accepted ≡ pageVerdict late magic i p
+      unfolding pageVerdict
+      page-known h = sym (rw (← is, h) (then-accepted v _ ok))
 
 -- ---- the search
 
-module _ (magic : ℕ) (s : List ℕ) where
-  pub bad-start : (n : ℕ) → firstBad magic s (n - 0) 0 ≡ firstBad magic s n 0
+module _ (late : ℕ → Bool) (magic : ℕ) (s : List ℕ) where
+  pub bad-start : (n : ℕ) → firstBad late magic s (n - 0) 0 ≡ firstBad late magic s n 0
   bad-start n = let z : n - 0 ≡ n = omega arith in rw z
 
-  pub bad-next : (n i : ℕ) → i < n → faultOf magic i (pageAt i s) ≡ Sound → firstBad magic s (n - i) i ≡ firstBad magic s (n - (i + 1)) (i + 1)
+  turn : (n i : ℕ) → i < n → firstBad late magic s (n - i) i ≡ (pageVerdict late magic i (pageAt i s) then firstBad late magic s (n - (i + 1)) (i + 1))
   unfolding firstBad
-  bad-next n i l e = let z : n - i ≡ suc (n - (i + 1)) = omega arith in rw (z, e, add-one)
+  turn n i l = let z : n - i ≡ suc (n - (i + 1)) = omega arith in rw (z, add-one)
 
-  pub bad-here : (n i : ℕ) → i < n → (faultOf magic i (pageAt i s) ≡ Sound → ⊥) → firstBad magic s (n - i) i ≡ verdict 11 i
-  unfolding firstBad
-  bad-here n i l h =
-      let z : n - i ≡ suc (n - (i + 1)) = omega arith in
-      rw z
-      (elim (judge (faultOf magic i (pageAt i s)) i (firstBad magic s (n - (i + 1)) (suc i))) [
-        | inl p ↦ absurd (h (p .0))
-        | inr p ↦ p .1
-      ])
+  pub bad-next : (n i : ℕ) → i < n → pageVerdict late magic i (pageAt i s) .number ≡ 0 → firstBad late magic s (n - i) i ≡ firstBad late magic s (n - (i + 1)) (i + 1)
+  bad-next n i l e = turn n i l ∙ then-accepted _ _ e
 
-  pub bad-end : (n i : ℕ) → n ≤ i → firstBad magic s (n - i) i ≡ accepted
+  pub bad-here : (n i : ℕ) → i < n → (pageVerdict late magic i (pageAt i s) .number ≡ 0 → ⊥) → firstBad late magic s (n - i) i ≡ pageVerdict late magic i (pageAt i s)
+  bad-here n i l h = turn n i l ∙ then-refused _ _ h
+
+  pub bad-end : (n i : ℕ) → n ≤ i → firstBad late magic s (n - i) i ≡ accepted
   unfolding firstBad
   bad-end n i l = let z : n - i ≡ 0 = omega arith in rw z
 
@@ -108,12 +149,13 @@ pub record Bad (magic : ℕ) (s : List ℕ) (i : ℕ) : Type 0 where
 abbrev pub number-of : Verdict → ℕ
 number-of v = v .number
 
-abbrev place-of : Verdict → ℕ
-place-of v = v .place
+-- what page i is refused by
+abbrev pub refusal : ℕ → List ℕ → ℕ → Verdict
+refusal magic s i = faultVerdict (faultOf magic i (pageAt i s)) i
 
--- a verdict of the search: accepted and all good, or 11 and the first that is not
+-- a verdict of the search: accepted and all good, or the refusal of the first that is not
 abbrev pub Found : ℕ → List ℕ → Verdict → Type 0
-Found magic s v = ((v ≡ accepted) × AllGood magic s) ⊎ ((i : ℕ) × (v ≡ verdict 11 i) × Bad magic s i)
+Found magic s v = ((v ≡ accepted) × AllGood magic s) ⊎ ((i : ℕ) × (v ≡ refusal magic s i) × Bad magic s i)
 
 found-same : {magic : ℕ} {s : List ℕ} {v w : Verdict} → v ≡ w → Found magic s w → Found magic s v
 found-same e (inl r) = inl (e ∙ r .0, r .1)
@@ -121,17 +163,22 @@ found-same e (inr r) = inr (r .0, e ∙ r .1, r .2)
 
 module _ (magic : ℕ) (s : List ℕ) where
   -- the n pages from i on, of which those before are good
-  found : (n i : ℕ) → i + n ≡ pagesIn s → ((j : ℕ) → j < i → Good magic j (pageAt j s)) → Found magic s (firstBad magic s n i)
+  found : (n i : ℕ) → i + n ≡ pagesIn s → ((j : ℕ) → j < i → Good magic j (pageAt j s)) → Found magic s (firstBad neverLate magic s n i)
   unfolding firstBad
   found zero i e b = inl (refl, λ j l. b j (omega arith))
   found (suc n) i e b =
-      elim (judge (faultOf magic i (pageAt i s)) i (firstBad magic s n (suc i))) [
-        | inl p ↦ found-same (p .1) (found n (suc i) (omega arith) (upto (sound-good magic i (pageAt i s) (page-length s i (omega arith)) (p .0))))
-        | inr p ↦ inr (i, p .1, record { within = omega arith; before = b; here = λ g. p .0 (good-sound magic i (pageAt i s) g) })
+      elim (judge (faultOf magic i (pageAt i s)) i) [
+        | inl p ↦ found-same (then-accepted _ _ (ap number-of (fine-page neverLate magic i (pageAt i s) (p .0) refl))) (found n (suc i) (omega arith) (upto (sound-good magic i (pageAt i s) (page-length s i (omega arith)) (p .0))))
+        | inr p ↦ inr (i, refused (p .1), record { within = omega arith; before = b; here = λ g. p .0 (good-sound magic i (pageAt i s) g) })
       ]
     where
       upto : Good magic i (pageAt i s) → (j : ℕ) → j < suc i → Good magic j (pageAt j s)
       upto g j l = elim (decLe i j) [ yes m ↦ let z : j ≡ i = omega arith in rw z g | no m ↦ b j (omega arith) ]
+
+      refused : (refusal magic s i .number ≡ 0 → ⊥) → (pageVerdict neverLate magic i (pageAt i s) then firstBad neverLate magic s n (suc i)) ≡ refusal magic s i
+      refused h =
+          let e : refusal magic s i ≡ pageVerdict neverLate magic i (pageAt i s) = page-fault neverLate magic i (pageAt i s) (refusal magic s i) refl h in
+          rw (← e) (then-refused (refusal magic s i) _ h)
 
   -- refusal 1, or what the search finds
   pub verdict-cases : ((sizeWrong s ≡ true) × (verdictOf magic s ≡ verdict 1 0)) ⊎ ((sizeWrong s ≡ false) × Found magic s (verdictOf magic s))
@@ -147,9 +194,17 @@ module _ (magic : ℕ) (s : List ℕ) where
   unfolding verdictOf
   case-size e = sym (rw e)
 
-  pub case-search : sizeWrong s ≡ false → firstBad magic s (pagesIn s) 0 ≡ verdictOf magic s
+  pub case-search : sizeWrong s ≡ false → firstBad neverLate magic s (pagesIn s) 0 ≡ verdictOf magic s
   unfolding verdictOf
   case-search e = sym (rw e)
+
+  -- a page that is not good is refused
+  refused : (i : ℕ) → Bad magic s i → refusal magic s i .number ≡ 0 → ⊥
+  refused i b e =
+      elim (judge (faultOf magic i (pageAt i s)) i) [
+        | inl p ↦ b .here (sound-good magic i (pageAt i s) (page-length s i (b .within)) (p .0))
+        | inr p ↦ p .1 e
+      ]
 
   -- accepted exactly if the size is right and all pages are good
   pub accepted-good : verdictOf magic s .number ≡ 0 → AllGood magic s
@@ -157,18 +212,10 @@ module _ (magic : ℕ) (s : List ℕ) where
     where
       good : Found magic s (verdictOf magic s) → AllGood magic s
       good (inl r) = r .1
-      good (inr r) = absurd (omega (arith, ap number-of (r .1)))
+      good (inr r) = absurd (refused (r .0) (r .2) (sym (ap number-of (r .1)) ∙ e))
 
   pub accepted-size : verdictOf magic s .number ≡ 0 → (length s % pageBytes ≡ 0) × (pagesIn s ≤ pageLimit)
   accepted-size e = elim verdict-cases [ inl p ↦ absurd (omega (arith, ap number-of (p .1))) | inr p ↦ right-size s (p .0) ]
-
-  -- refused by 11 at i exactly if the size is right and page i is the first that is not good
-  pub refused-bad : (i : ℕ) → verdictOf magic s ≡ verdict 11 i → Bad magic s i
-  refused-bad i e = elim verdict-cases [ inl p ↦ absurd (omega (arith, ap number-of (sym e ∙ p .1))) | inr p ↦ bad (p .1) ]
-    where
-      bad : Found magic s (verdictOf magic s) → Bad magic s i
-      bad (inl r) = absurd (omega (arith, ap number-of (sym e ∙ r .0)))
-      bad (inr r) = let z : r .0 ≡ i = ap place-of (sym (r .1) ∙ e) in rw z at (r .2)
 
   module _ (m : length s % pageBytes ≡ 0) (l : pagesIn s ≤ pageLimit) where
     searched : Found magic s (verdictOf magic s)
@@ -177,10 +224,11 @@ module _ (magic : ℕ) (s : List ℕ) where
     pub good-accepted : AllGood magic s → verdictOf magic s ≡ accepted
     good-accepted g = elim searched [ inl r ↦ r .0 | inr r ↦ absurd (r .2 .here (g (r .0) (r .2 .within))) ]
 
-    pub bad-refused : (i : ℕ) → Bad magic s i → verdictOf magic s ≡ verdict 11 i
+    -- the refusal of the first page that is not good
+    pub bad-refused : (i : ℕ) → Bad magic s i → verdictOf magic s ≡ refusal magic s i
     bad-refused i b = elim searched [ inl r ↦ absurd (b .here (r .1 i (b .within))) | inr r ↦ same (r .0) (r .1) (r .2) ]
       where
-        same : (k : ℕ) → verdictOf magic s ≡ verdict 11 k → Bad magic s k → verdictOf magic s ≡ verdict 11 i
+        same : (k : ℕ) → verdictOf magic s ≡ refusal magic s k → Bad magic s k → verdictOf magic s ≡ refusal magic s i
         same k e d =
             elim (decLe k i) [
               | yes p ↦ elim (decLe i k) [

@@ -4,14 +4,15 @@ use mathlib.Core.List.{List}
 use mathlib.Core.Bool.{Bool, true, false}
 use lib.ListN.{length}
 use lib.Dec.{ltb, leb, eqb}
-use Rattle.refusals.specs.Refusal.{pageArea, pageNotGood}
+use Rattle.refusals.specs.Refusal.{pageArea, pageNotGood, pageLsn}
+use Rattle.refusals.specs.Verdict.{verdict, accepted, _then_}
 use Rattle.endian.specs.Pick.{pick}
 use Rattle.endian.specs.Numbers.{part}
 use Rattle.crc32c.specs.Crc.{crc32c}
-use Rattle.page.specs.Layout.{pageBytes, bodyBytes, pageLimit, slotLimit, rowHead, dataType, lastType, pagesIn, pageAt, magicOf, typeOf, countOf, crcOf, idOf, freeStartOf, freeEndOf, bodyOf, slotOff, slotLen, deletedOf}
+use Rattle.page.specs.Layout.{pageBytes, bodyBytes, pageLimit, slotLimit, rowHead, dataType, lastType, pagesIn, pageAt, magicOf, typeOf, countOf, crcOf, idOf, lsnOf, freeStartOf, freeEndOf, bodyOf, slotOff, slotLen, deletedOf}
 use Rattle.page.specs.declared.Fault.{Fault}
 use Rattle.page.specs.declared.Fault.the-variants.{Sound, MagicOrType, Id, Checksum, Count, FreeStart, FreeEnd, Slot}
-use Rattle.page.specs.declared.Verdict.{Verdict}
+use Rattle.refusals.specs.declared.Verdict.{Verdict}
 
 -- ---- a slot
 
@@ -72,31 +73,40 @@ faultOf magic index p =
 
 -- ---- a page area
 
-abbrev pub verdict : ℕ → ℕ → Verdict
-verdict n at = record { number = n; place = at }
+-- what a fault of the page at an index is refused by, and where
+abbrev pub faultVerdict : Fault → ℕ → Verdict
+faultVerdict Sound i = accepted
+faultVerdict MagicOrType i = verdict pageNotGood i
+faultVerdict Id i = verdict pageNotGood i
+faultVerdict Checksum i = verdict pageNotGood i
+faultVerdict Count i = verdict pageNotGood i
+faultVerdict FreeStart i = verdict pageNotGood i
+faultVerdict FreeEnd i = verdict pageNotGood i
+faultVerdict (Slot k) i = verdict pageNotGood i
 
-abbrev pub accepted : Verdict
-accepted = verdict 0 0
+-- which LSNs of a page are refused: those above a known one; in verification none
+abbrev pub lateAt : ℕ → ℕ → Bool
+lateAt known lsn = ltb known lsn
 
--- the refusal that a fault of the page at an index is, or what comes after it
-abbrev pub judged : Fault → ℕ → Verdict → Verdict
-judged Sound i later = later
-judged MagicOrType i later = verdict pageNotGood i
-judged Id i later = verdict pageNotGood i
-judged Checksum i later = verdict pageNotGood i
-judged Count i later = verdict pageNotGood i
-judged FreeStart i later = verdict pageNotGood i
-judged FreeEnd i later = verdict pageNotGood i
-judged (Slot k) i later = verdict pageNotGood i
+abbrev pub neverLate : ℕ → Bool
+neverLate lsn = false
 
--- the first of the n pages from i on that is not good
-unfoldable pub firstBad : ℕ → List ℕ → ℕ → ℕ → Verdict
-firstBad magic s zero i = accepted
-firstBad magic s (suc n) i = judged (faultOf magic i (pageAt i s)) i (firstBad magic s n (suc i))
+-- one of the two, as code is told it
+abbrev pub lateOf : Bool → ℕ → ℕ → Bool
+lateOf bounded known lsn = pick bounded (lateAt known lsn) (neverLate lsn)
+
+-- the page at an index: its fault, then 12
+unfoldable pub pageVerdict : (ℕ → Bool) → ℕ → ℕ → List ℕ → Verdict
+pageVerdict late magic i p = faultVerdict (faultOf magic i p) i then pick (late (lsnOf p)) (verdict pageLsn i) accepted
+
+-- the n pages from i on: the first that is refused
+unfoldable pub firstBad : (ℕ → Bool) → ℕ → List ℕ → ℕ → ℕ → Verdict
+firstBad late magic s zero i = accepted
+firstBad late magic s (suc n) i = pageVerdict late magic i (pageAt i s) then firstBad late magic s n (suc i)
 
 -- refusal 1: page bytes no multiple of a page's, or too many pages
 unfoldable pub sizeWrong : List ℕ → Bool
 sizeWrong s = pick (eqb (length s % pageBytes) 0) (ltb pageLimit (pagesIn s)) true
 
 unfoldable pub verdictOf : ℕ → List ℕ → Verdict
-verdictOf magic s = pick (sizeWrong s) (verdict pageArea 0) (firstBad magic s (pagesIn s) 0)
+verdictOf magic s = pick (sizeWrong s) (verdict pageArea 0) (firstBad neverLate magic s (pagesIn s) 0)

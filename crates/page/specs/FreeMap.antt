@@ -3,11 +3,13 @@ use Prim.Native.Nat.{ℕ, zero, suc, _+_, _*_, _/_}
 use mathlib.Core.List.{List, [], _∷_, _++_}
 use lib.ListN.{length, drop}
 use lib.Dec.{ltb, eqb}
+use lib.Count.{ones}
 use Rattle.refusals.specs.Refusal.{mapShort}
 use Rattle.endian.specs.Pick.{pick}
 use Rattle.page.specs.Layout.{freeType, pagesIn, pageAt, typeOf}
-use Rattle.page.specs.Fault.{verdict, accepted, verdictOf}
-use Rattle.page.specs.declared.Verdict.{Verdict}
+use Rattle.refusals.specs.Verdict.{verdict, accepted}
+use Rattle.page.specs.Fault.{verdictOf}
+use Rattle.refusals.specs.declared.Verdict.{Verdict}
 
 -- 1 where page i is lent and has type 4, else 0
 unfoldable pub freeBit : List ℕ → ℕ → ℕ
@@ -22,6 +24,11 @@ bits s (suc n) i = freeBit s i + 2 * bits s n (suc i)
 unfoldable pub mapBytes : List ℕ → ℕ → ℕ → List ℕ
 mapBytes s zero i = []
 mapBytes s (suc n) i = bits s 8 i ∷ mapBytes s n (i + 8)
+
+-- how many bits of a list of bytes are 1
+unfoldable pub onesOf : List ℕ → ℕ
+onesOf [] = 0
+onesOf (b ∷ bs) = ones b + onesOf bs
 
 -- a bit for each page, in whole bytes
 abbrev pub mapLength : List ℕ → ℕ

@@ -1,14 +1,18 @@
 -- Visible rows (paper 01, Numbers given back).
-use Prim.Native.Nat.{ℕ, zero, suc, _+_}
+use Prim.Native.Nat.{ℕ, zero, suc, _+_, _*_, _/_, _<_}
+use mathlib.Core.Path.{_≡_}
 use mathlib.Core.List.{List, [], _∷_, _++_}
 use mathlib.Core.Bool.{Bool, false}
-use lib.ListN.{length}
+use lib.ListN.{length, take, drop}
 use lib.Dec.{ltb, leb, eqb}
 use Rattle.endian.specs.Pick.{pick, consIf}
 use Rattle.page.specs.Layout.{dataType, pagesIn, pageAt, typeOf, countOf, slotAt, deletedOf}
 use Rattle.page.specs.Fault.{verdictOf}
-use Rattle.page.specs.declared.Verdict.{Verdict}
+use Rattle.refusals.specs.Verdict.{accepted}
+use Rattle.refusals.specs.declared.Verdict.{Verdict}
+use Rattle.page.specs.Good.{DataGood}
 use Rattle.page.specs.declared.Row.{Row}
+use Rattle.page.specs.declared.RowList.{RowList}
 use Rattle.page.specs.declared.NextRow.{NextRow}
 use Rattle.page.specs.declared.NextRow.the-variants.{Refused, At, NoMore}
 
@@ -46,9 +50,54 @@ unfoldable pub firstAt : ℕ → ℕ → List Row → NextRow
 firstAt i k [] = NoMore
 firstAt i k (r ∷ rs) = pick (atOrAfter i k r) (At r) (firstAt i k rs)
 
+-- those of some rows that stand at or after slot k of page i
+unfoldable pub rowsAt : ℕ → ℕ → List Row → List Row
+rowsAt i k [] = []
+rowsAt i k (r ∷ rs) = consIf (atOrAfter i k r) r (rowsAt i k rs)
+
 -- refused as verification refuses, else the row
 abbrev pub unlessRefused : Verdict → NextRow → NextRow
 unlessRefused v r = pick (eqb (v .number) 0) r (Refused v)
 
 unfoldable pub nextRow : ℕ → List ℕ → ℕ → ℕ → NextRow
 nextRow magic s i k = unlessRefused (verdictOf magic s) (firstAt i k (visibleRows s))
+
+-- ---- many rows at a time
+
+-- what a listing asks of pages: those of Data are good
+pub record Listable (s : List ℕ) : Type 0 where
+  pub at : (i : ℕ) → i < pagesIn s → typeOf (pageAt i s) ≡ dataType → DataGood (pageAt i s)
+
+-- a row as numbers
+abbrev pub numbersOf : Row → List ℕ
+numbersOf r = r .page .0 ∷ r .slot ∷ r .length ∷ []
+
+abbrev pub numbersOfAll : List Row → List ℕ
+numbersOfAll [] = []
+numbersOfAll (r ∷ rs) = numbersOf r ++ numbersOfAll rs
+
+-- n rows were given, and these of an area of so many pages are left: the first of them is where to go on, the end of the area where there is none
+abbrev pub listed : ℕ → ℕ → List Row → RowList
+listed n pages [] = record { verdict = accepted; count = n; page = record { 0 = pages }; slot = 0 }
+listed n pages (r ∷ rs) = record { verdict = accepted; count = n; page = r .page; slot = r .slot }
+
+-- the rows from slot k of page i on, as many as there is room for
+unfoldable pub listOf : List ℕ → ℕ → ℕ → ℕ → RowList
+listOf s i k room = listed (length (take room (rowsAt i k (visibleRows s)))) (pagesIn s) (drop room (rowsAt i k (visibleRows s)))
+
+-- three numbers for each of some rows, and the later ones as they were
+abbrev pub withRows : List Row → List ℕ → List ℕ
+withRows rs out = numbersOfAll rs ++ drop (3 * length rs) out
+
+unfoldable pub listAfter : List ℕ → ℕ → ℕ → List ℕ → List ℕ
+listAfter s i k out = withRows (take (length out / 3) (rowsAt i k (visibleRows s))) out
+
+-- refused as verification refuses: nothing is given
+abbrev pub noList : Verdict → RowList
+noList v = record { verdict = v; count = 0; page = record { 0 = 0 }; slot = 0 }
+
+unfoldable pub rowList : ℕ → List ℕ → ℕ → ℕ → ℕ → RowList
+rowList magic s i k room = pick (eqb (verdictOf magic s .number) 0) (listOf s i k room) (noList (verdictOf magic s))
+
+unfoldable pub rowsAfter : ℕ → List ℕ → ℕ → ℕ → List ℕ → List ℕ
+rowsAfter magic s i k out = pick (eqb (verdictOf magic s .number) 0) (listAfter s i k out) out

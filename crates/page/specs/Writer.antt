@@ -1,4 +1,4 @@
--- What the writer of packed pages leaves in its working page, step by step.
+-- Internal: what the writer of packed pages leaves in its working page, step by step.
 use Prim.Native.Nat.{ℕ, _+_, _*_, _-_}
 use mathlib.Core.List.{List, [], _∷_, _++_}
 use mathlib.Core.Bool.{Bool, true, false}

@@ -11,11 +11,12 @@ use crate::BODY_BYTES;
 use crate::DELETED_AT;
 use crate::Fault;
 use crate::ROW_HEAD_BYTES;
+use crate::granules::by_granules;
 use crate::inner::slot_len;
 use crate::inner::slot_off;
 
 // Whether the n bytes at o of the body are a tuple that lies between end and top.
-fn tuple_fits(page: &[u8], end: usize, top: usize, o: usize, n: usize) -> bool
+pub fn tuple_fits(page: &[u8], end: usize, top: usize, o: usize, n: usize) -> bool
     requires { ⌜ (length (now page) ≡ pageBytes) × (top ≤ bodyBytes) × (o < 65536) × (n < 65536) ⌝ }
     ensures { λ r. ⌜ r ≡ isTuple (bodyOf (now (page .entry))) end top o n ⌝ }
 {
@@ -117,12 +118,16 @@ fn first_fault(page: &[u8], end: usize, count: usize) -> Fault
     found
 }
 
-// The first slot at fault of a page whose header's fields are right: one pass where the tuples stand in packed order.
+// The first slot at fault of a page whose header's fields are right: one pass where the tuples stand in packed order, a pass by granules where no slot is at
+// fault, else the slots one with another.
 pub fn slots_fault(page: &[u8], end: usize, count: usize) -> Fault
     requires { ⌜ (length (now page) ≡ pageBytes) × (count ≤ slotLimit) ⌝ }
     ensures { λ r. ⌜ r ≡ slotsFault (bodyOf (now (page .entry))) end count 0 ⌝ }
 {
     if in_order(page, end, count) {
+        return Fault::Sound;
+    }
+    if by_granules(page, end, count) {
         return Fault::Sound;
     }
     first_fault(page, end, count)

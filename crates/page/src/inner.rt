@@ -1,4 +1,4 @@
-// What other crates call with a `requires`: a page's fields, its first fault, and the packed page writer.
+// What other crates call with a `requires`: a page's fields, its first fault, the next visible row, the packed page writer, and the bits of a map of free pages.
 ghost use mathlib.Core.Path.{_≡_};
 ghost use Prim.Native.Nat.{ℕ, _+_, _*_, _-_, _≤_, _<_};
 ghost use lib.ListN.{length};
@@ -6,21 +6,25 @@ ghost use lib.Seq.{paste};
 ghost use Rattle.crc32c.specs.Crc.{crc32c as crcOfBytes};
 ghost use Rattle.crc32c.specs.Tables.{Tables};
 ghost use Rattle.page.specs.Layout.{pageBytes, bodyBytes, slotLimit, pagesIn, magicOf, typeOf, countOf, idOf, lsnOf, bodyOf, slotOff, slotLen};
-ghost use Rattle.page.specs.Fault.{dataFault, faultOf, firstBad, sizeWrong, verdictOf};
+ghost use Rattle.page.specs.Fault.{dataFault, faultOf, faultVerdict, lateOf, pageVerdict, firstBad, sizeWrong, verdictOf};
 ghost use Rattle.endian.specs.Pick.{pick};
+ghost use Rattle.page.specs.Rows.{Listable, visibleRows, firstAt};
+ghost use Rattle.page.specs.FreeMap.{freeBit, onesOf};
 ghost use Rattle.page.specs.Packed.{packed};
 ghost use Rattle.page.specs.Writer.{withSlot, headOf, sealed, givenAll, partsFit};
 use crate::BODY_BYTES;
 use crate::DATA_TYPE;
+use crate::FREE_TYPE;
 use crate::Fault;
 use crate::HEAD_BYTES;
 use crate::LAST_TYPE;
+use crate::NextRow;
 use crate::PAGE_BYTES;
 use crate::PAGE_LIMIT;
 use crate::PageHead;
 use crate::SLOT_LIMIT;
-use crate::Verdict;
 use crate::faults::slots_fault;
+use crate::rows::row_on;
 use crate::writer::copy_in;
 use crate::writer::off_of;
 use crate::writer::parts_fit;
@@ -32,11 +36,14 @@ use crc32c::inner::crc32c;
 use endian::Lsn;
 use endian::PageNumber;
 use endian::inner::put_u16;
+use endian::inner::short_at;
 use endian::inner::u16_at;
 use endian::inner::u32_at;
 use endian::inner::u64_at;
 use refusals::PAGE_AREA;
+use refusals::PAGE_LSN;
 use refusals::PAGE_NOT_GOOD;
+use refusals::Verdict;
 
 // Where in a page the offset and the length of slot 0 stand; a slot has four bytes.
 const OFFSETS_AT: usize = HEAD_BYTES;
@@ -151,23 +158,82 @@ pub fn fault(t: &Tables, magic: u64, index: PageNumber, page: &[u8]) -> Fault
     data_fault(page)
 }
 
-// The first of count pages that is not good.
-fn first_bad(t: &Tables, magic: u64, pages: &[u8], count: usize) -> Verdict
+// What a fault of the page at an index is refused by.
+fn fault_verdict(f: Fault, index: usize) -> Verdict
+    ensures { λ r. ⌜ r ≡ faultVerdict f index ⌝ }
+{
+    let Fault::Sound = f else {
+        return Verdict {
+            number: PAGE_NOT_GOOD,
+            place: index as u64,
+        };
+    };
+    Verdict {
+        number: 0,
+        place: 0,
+    }
+}
+
+// Whether an LSN is refused: bounded, one above a known one.
+fn is_late(bounded: bool, known: u64, lsn: Lsn) -> bool
+    ensures { λ r. ⌜ r ≡ lateOf bounded known (lsn .0) ⌝ }
+{
+    if !bounded {
+        return false;
+    }
+    known < lsn.0
+}
+
+// Refusal 11 or 12 of the page at an index.
+fn page_verdict(
+    t: &Tables,
+    magic: u64,
+    bounded: bool,
+    known: u64,
+    index: usize,
+    page: &[u8],
+) -> Verdict
+    requires { ⌜ Tables (now t) ⌝ }
+    requires { ⌜ length (now page) ≡ pageBytes ⌝ }
+    ensures { λ r. ⌜ r ≡ pageVerdict (lateOf bounded known) magic index (now (page .entry)) ⌝ }
+{
+    let v = fault_verdict(fault(t, magic, PageNumber(index as u64), page), index);
+    if v.number != 0 {
+        return v;
+    }
+    if is_late(bounded, known, lsn(page)) {
+        return Verdict {
+            number: PAGE_LSN,
+            place: index as u64,
+        };
+    }
+    Verdict {
+        number: 0,
+        place: 0,
+    }
+}
+
+// The first refusal of count pages.
+pub fn first_bad(
+    t: &Tables,
+    magic: u64,
+    bounded: bool,
+    known: u64,
+    pages: &[u8],
+    count: usize,
+) -> Verdict
     requires { ⌜ Tables (now t) ⌝ }
     requires { ⌜ count ≡ pagesIn (now pages) ⌝ }
-    ensures { λ r. ⌜ r ≡ firstBad magic (now (pages .entry)) count 0 ⌝ }
+    ensures { λ r. ⌜ r ≡ firstBad (lateOf bounded known) magic (now (pages .entry)) count 0 ⌝ }
 {
     let mut i: usize = 0;
     while i < count {
         let a = i * PAGE_BYTES;
         let e = a + PAGE_BYTES;
-        let f = fault(t, magic, PageNumber(i as u64), &pages[a..e]);
-        let Fault::Sound = f else {
-            return Verdict {
-                number: PAGE_NOT_GOOD,
-                place: i as u64,
-            };
-        };
+        let v = page_verdict(t, magic, bounded, known, i, &pages[a..e]);
+        if v.number != 0 {
+            return v;
+        }
         i += 1;
     }
     Verdict {
@@ -197,7 +263,28 @@ pub fn verify(t: &Tables, magic: u64, pages: &[u8]) -> Verdict
             place: 0,
         };
     }
-    first_bad(t, magic, pages, pages.len() / PAGE_BYTES)
+    first_bad(t, magic, false, 0, pages, pages.len() / PAGE_BYTES)
+}
+
+// The first visible row at or after a slot of the page at an index, on pages that were verified. A search goes on behind the row that it gives.
+pub fn next_row(pages: &[u8], index: usize, slot: usize) -> NextRow
+    requires { ⌜ Listable (now pages) ⌝ }
+    ensures { λ r. ⌜ r ≡ firstAt index slot (visibleRows (now (pages .entry))) ⌝ }
+{
+    let n = pages.len() / PAGE_BYTES;
+    let mut i = index;
+    let mut k = slot;
+    while i < n {
+        let a = i * PAGE_BYTES;
+        let e = a + PAGE_BYTES;
+        let r = row_on(&pages[a..e], i as u64, k);
+        let NextRow::NoMore = r else {
+            return r;
+        };
+        i += 1;
+        k = 0;
+    }
+    NextRow::NoMore
 }
 
 // Puts tuple into the working page as slot k: its four bytes, and the tuple so that it ends at top of the body. Gives back where it starts.
@@ -259,4 +346,31 @@ pub fn write_packed(
     seal(t, &mut work, h, reserved, lengths.len(), top);
     store(pages, index, &work);
     true
+}
+
+// 1 where page i is lent and free, else 0.
+pub fn free_bit(pages: &[u8], i: usize) -> u8
+    ensures { λ r. ⌜ (r ≡ freeBit (now (pages .entry)) i) × (r ≤ 1) ⌝ }
+{
+    if pages.len() / PAGE_BYTES <= i {
+        return 0;
+    }
+    if pages[i * PAGE_BYTES + 8] == FREE_TYPE {
+        return 1;
+    }
+    0
+}
+
+// How many bits of the bytes of a map are 1: eight bytes at a time, then the rest.
+pub fn ones(map: &[u8]) -> u64
+    requires { ⌜ length (now map) ≤ 65536 ⌝ }
+    ensures { λ r. ⌜ r ≡ onesOf (now (map .entry)) ⌝ }
+{
+    let mut total: u64 = 0;
+    let mut i: usize = 0;
+    while i + 8 <= map.len() {
+        total += u64::count_ones(u64_at(map, i)) as u64;
+        i += 8;
+    }
+    total + u64::count_ones(short_at(map, i)) as u64
 }

@@ -1,14 +1,19 @@
 // The page format: the first fault of a page, slots, visible rows, the map of free pages, and the packed page.
 ghost use mathlib.Core.Path.{_≡_};
 ghost use Rattle.page.specs.Fault.{verdictOf};
-ghost use Rattle.page.specs.Rows.{nextRow};
+ghost use Prim.Native.Nat.{_/_};
+ghost use lib.ListN.{length};
+ghost use Rattle.page.specs.Rows.{nextRow, rowList, rowsAfter};
 ghost use Rattle.page.specs.FreeMap.{mapVerdict, freeCount, mapAfter};
 use endian::Lsn;
 use endian::PageNumber;
 use refusals::MAP_SHORT;
+use refusals::Verdict;
 
 mod faults;
+mod granules;
 pub mod inner;
+mod list;
 mod map;
 mod rows;
 mod writer;
@@ -50,12 +55,6 @@ pub enum Fault {
     Slot(usize),
 }
 
-// A refusal's number and place; number 0 is none.
-pub struct Verdict {
-    pub number: u64,
-    pub place: u64,
-}
-
 // What a page's header holds besides what the writer works out, and its reserved bytes.
 pub struct PageHead {
     pub magic: u64,
@@ -76,6 +75,14 @@ pub enum NextRow {
     Refused(Verdict),
     At(Row),
     NoMore,
+}
+
+// What listing many rows answers: a refusal, or how many rows were given and where to go on.
+pub struct RowList {
+    pub verdict: Verdict,
+    pub count: usize,
+    pub page: PageNumber,
+    pub slot: usize,
 }
 
 // What making a free map answers: a refusal, or the count of free pages.
@@ -100,7 +107,31 @@ pub fn next_visible(magic: u64, pages: &[u8], page: PageNumber, slot: usize) -> 
     if v.number != 0 {
         return NextRow::Refused(v);
     }
-    rows::row_from(pages, page.0 as usize, slot)
+    inner::next_row(pages, page.0 as usize, slot)
+}
+
+// Fills the lent numbers with the visible rows at or after a slot of a page, three numbers a row: page, slot, length; verifies the pages once. Gives back how many
+// rows there are, and the place of the first that found no room, or the count of pages and 0 where all are given. Refuses 1 and 11, which leave the numbers as they are.
+pub fn list_visible(
+    magic: u64,
+    pages: &[u8],
+    page: PageNumber,
+    slot: usize,
+    out: &mut [u64],
+) -> RowList
+    ensures { λ r. ⌜ r ≡ rowList magic (now (pages .entry)) (page .0) slot (length (now (out .entry)) / 3) ⌝ }
+    ensures { λ _. ⌜ now (out .exit) ≡ rowsAfter magic (now (pages .entry)) (page .0) slot (now (out .entry)) ⌝ }
+{
+    let v = verify(magic, pages);
+    if v.number != 0 {
+        return RowList {
+            verdict: v,
+            count: 0,
+            page: PageNumber(0),
+            slot: 0,
+        };
+    }
+    list::fill(pages, page.0 as usize, slot, out)
 }
 
 // Writes the map of free pages: bit i, lowest bit first, is 1 exactly if page i is free; needed bytes whole, spare bits 0. Refuses 1, 11 and 16, which
@@ -134,6 +165,6 @@ pub fn free_map(magic: u64, pages: &[u8], map: &mut [u8]) -> FreeMap
             number: 0,
             place: 0,
         },
-        free: map::free_pages(pages, count),
+        free: inner::ones(&map[..need]),
     }
 }

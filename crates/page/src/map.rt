@@ -3,22 +3,8 @@ ghost use mathlib.Core.Path.{_≡_};
 ghost use mathlib.Core.List.{_++_};
 ghost use Prim.Native.Nat.{ℕ, _+_, _*_, _≤_, _<_};
 ghost use lib.ListN.{length, drop};
-ghost use Rattle.page.specs.FreeMap.{freeBit, bits, mapBytes, freePages};
-use crate::FREE_TYPE;
-use crate::PAGE_BYTES;
-
-// 1 where page i is lent and free, else 0.
-fn free_bit(pages: &[u8], i: usize) -> u8
-    ensures { λ r. ⌜ (r ≡ freeBit (now (pages .entry)) i) × (r ≤ 1) ⌝ }
-{
-    if pages.len() / PAGE_BYTES <= i {
-        return 0;
-    }
-    if pages[i * PAGE_BYTES + 8] == FREE_TYPE {
-        return 1;
-    }
-    0
-}
+ghost use Rattle.page.specs.FreeMap.{freeBit, bits, mapBytes};
+use crate::inner::free_bit;
 
 // The bits of the eight pages from i on, the lowest first.
 fn map_byte(pages: &[u8], i: usize) -> u8
@@ -44,17 +30,4 @@ pub fn fill(pages: &[u8], map: &mut [u8], n: usize)
         map[m] = map_byte(pages, 8 * m);
         m += 1;
     }
-}
-
-// How many of the first n pages are free.
-pub fn free_pages(pages: &[u8], n: usize) -> u64
-    ensures { λ r. ⌜ r ≡ freePages (now (pages .entry)) n 0 ⌝ }
-{
-    let mut total: u64 = 0;
-    let mut i = 0;
-    while i < n {
-        total += free_bit(pages, i) as u64;
-        i += 1;
-    }
-    total
 }

@@ -1,15 +1,14 @@
-// The first visible row at or after a place, on pages that are good.
+// The first visible row of a page at or after a slot, on a page that is good.
 ghost use mathlib.Core.Path.{_≡_};
-ghost use Prim.Native.Nat.{ℕ, _<_};
+ghost use Prim.Native.Nat.{_<_};
 ghost use lib.ListN.{length};
 ghost use Rattle.endian.specs.Pick.{pick};
-ghost use Rattle.page.specs.Layout.{pageBytes, dataType, pagesIn, pageAt, typeOf, countOf, slotAt};
+ghost use Rattle.page.specs.Layout.{pageBytes, dataType, typeOf, countOf, slotAt};
 ghost use Rattle.page.specs.Good.{DataGood};
-ghost use Rattle.page.specs.Rows.{visible, slotRows, pageRows, visibleRows, firstAt};
+ghost use Rattle.page.specs.Rows.{visible, slotRows, pageRows, firstAt};
 use crate::DATA_TYPE;
 use crate::DELETED_AT;
 use crate::NextRow;
-use crate::PAGE_BYTES;
 use crate::Row;
 use crate::inner::count;
 use crate::inner::kind;
@@ -57,7 +56,8 @@ fn row_of(page: &[u8], index: u64, slot: usize) -> NextRow
     NextRow::NoMore
 }
 
-fn row_on(page: &[u8], index: u64, slot: usize) -> NextRow
+// The first visible row of a page at or after a slot.
+pub fn row_on(page: &[u8], index: u64, slot: usize) -> NextRow
     requires { ⌜ length (now page) ≡ pageBytes ⌝ }
     requires { ⌜ (typeOf (now page) ≡ dataType → DataGood (now page)) ⌝ }
     ensures { λ r. ⌜ r ≡ firstAt index slot (pageRows index (now (page .entry))) ⌝ }
@@ -66,25 +66,4 @@ fn row_on(page: &[u8], index: u64, slot: usize) -> NextRow
         return NextRow::NoMore;
     }
     row_of(page, index, slot)
-}
-
-// The first visible row at or after a slot of the page at an index.
-pub fn row_from(pages: &[u8], index: usize, slot: usize) -> NextRow
-    requires { ⌜ ((i : ℕ) → i < pagesIn (now pages) → typeOf (pageAt i (now pages)) ≡ dataType → DataGood (pageAt i (now pages))) ⌝ }
-    ensures { λ r. ⌜ r ≡ firstAt index slot (visibleRows (now (pages .entry))) ⌝ }
-{
-    let n = pages.len() / PAGE_BYTES;
-    let mut i = index;
-    let mut k = slot;
-    while i < n {
-        let a = i * PAGE_BYTES;
-        let e = a + PAGE_BYTES;
-        let r = row_on(&pages[a..e], i as u64, k);
-        let NextRow::NoMore = r else {
-            return r;
-        };
-        i += 1;
-        k = 0;
-    }
-    NextRow::NoMore
 }

@@ -1,4 +1,4 @@
--- Looking forward in a log: the first Begin, and the record of a transaction by the entries behind its Begin.
+-- Internal: looking forward in a log: the first Begin, and the record of a transaction by the entries behind its Begin.
 use Prim.Native.Nat.{ℕ, _+_}
 use mathlib.Core.List.{List, [], _∷_}
 use lib.Dec.{eqb}

@@ -14,7 +14,7 @@ use Rattle.endian.specs.Numbers.{part, numberAt, numberOf, bytesOf}
 use Rattle.endian.proofs.Numbers.{length-bytesOf, number-back, number-split}
 use Rattle.endian.proofs.Places.{number-append, number-take, number-drop}
 use Rattle.page.specs.Layout.{xminOf, xmaxOf, deletedOf, padOf, payloadOf}
-use Rattle.page.specs.Fault.{verdict}
+use Rattle.refusals.specs.Verdict.{verdict}
 use Rattle.page.proofs.Reading.{deleted-in}
 use Rattle.rules.specs.Shape.{stamped}
 use Rattle.rules.specs.Row.{headOf, refusedRow}

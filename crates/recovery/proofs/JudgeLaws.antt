@@ -11,23 +11,17 @@ use Rattle.wal.specs.Entry.{Entry, sizeOf}
 use Rattle.wal.specs.Read.{first, headerFault}
 use Rattle.wal.specs.Walk.{entries}
 use Rattle.page.specs.Layout.{pagesIn}
-use Rattle.page.specs.Fault.{verdict, accepted, sizeWrong}
-use Rattle.page.specs.declared.Verdict.{Verdict}
+use Rattle.refusals.specs.Verdict.{verdict, accepted, _then_}
+use Rattle.page.specs.Fault.{sizeWrong}
+use Rattle.refusals.specs.declared.Verdict.{Verdict}
 use Rattle.rules.specs.Shape.{both, isKnown, isShaped}
-use Rattle.rules.specs.Order.{one, count, any, isBegin, lastLsn, inOrder, clashes, fullAt, neverFull, faultAfter, orElse, orderFrom, logVerdict, _then_}
+use Rattle.rules.specs.Order.{one, count, any, isBegin, lastLsn, inOrder, clashes, fullAt, neverFull, faultAfter, orElse, orderFrom, logVerdict}
 use Rattle.rules.specs.Recover.{pagesFrom, strayFrom, tightFrom, recoverVerdict}
 use Rattle.rules.proofs.Tests.{into, past}
 use Rattle.rules.proofs.OrderLaws.{InTurn, in-turn}
-use Rattle.rules.proofs.Verdicts.{then-zero}
+use Rattle.refusals.proofs.Then.{then-refused, then-accepted, then-zero}
 use Rattle.order.specs.First.{told}
 use Rattle.fates.specs.Fate.{Ordered}
-
--- ---- one verdict after another
-pub then-refused : (v w : Verdict) → (v .number ≡ 0 → ⊥) → (v then w) ≡ v
-then-refused v w h = rw (ne-eqb (v .number) 0 h)
-
-pub then-accepted : (v w : Verdict) → v .number ≡ 0 → (v then w) ≡ w
-then-accepted v w h = rw (eq-eqb (v .number) 0 h)
 
 -- a number other than 0 is told as it is
 pub told-refused : (n at : ℕ) → (n ≡ 0 → ⊥) → told n at ≡ verdict n at

@@ -11,8 +11,9 @@ use Rattle.wal.specs.Read.{first}
 use Rattle.wal.specs.Walk.{entries, endOf}
 use Rattle.wal.proofs.Prefix.{met-end, before-end}
 use Rattle.page.specs.Layout.{pageBytes, dataType, pagesIn, pageAt, typeOf}
-use Rattle.page.specs.Fault.{verdict, accepted, sizeWrong}
-use Rattle.page.specs.declared.Verdict.{Verdict}
+use Rattle.refusals.specs.Verdict.{verdict, accepted}
+use Rattle.page.specs.Fault.{sizeWrong}
+use Rattle.refusals.specs.declared.Verdict.{Verdict}
 use Rattle.page.proofs.FaultLaws.{sound-good}
 use Rattle.page.proofs.Verdicts.{page-length, right-size}
 use Rattle.rules.specs.Order.{logVerdict, neverFull}

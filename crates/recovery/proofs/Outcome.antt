@@ -9,8 +9,8 @@ use borrow.Author.Tests.{eq-eqb, ne-eqb}
 use Rattle.wal.specs.Entry.{Entry}
 use Rattle.wal.specs.Walk.{entries, endOf}
 use Rattle.page.specs.Layout.{pageBytes, dataType, pagesIn, pageAt, typeOf}
-use Rattle.page.specs.Fault.{verdict, accepted}
-use Rattle.page.specs.declared.Verdict.{Verdict}
+use Rattle.refusals.specs.Verdict.{verdict, accepted}
+use Rattle.refusals.specs.declared.Verdict.{Verdict}
 use Rattle.rules.specs.Order.{count, isBegin, fullAt, lastLsn}
 use Rattle.rules.specs.Recover.{recoverVerdict, tableAfter, touchedFrom, mendedFrom, refused, done, Recovered, recoverBy, recoverOf}
 use Rattle.rules.specs.declared.Answer.{Answer}

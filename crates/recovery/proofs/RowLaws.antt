@@ -12,8 +12,8 @@ use Rattle.endian.specs.Pick.{pick}
 use Rattle.endian.specs.Numbers.{part}
 use Rattle.endian.proofs.Places.{drop-part}
 use Rattle.page.specs.Layout.{payloadOf}
-use Rattle.page.specs.Fault.{verdict}
-use Rattle.page.specs.declared.Verdict.{Verdict}
+use Rattle.refusals.specs.Verdict.{verdict}
+use Rattle.refusals.specs.declared.Verdict.{Verdict}
 use Rattle.rules.specs.Row.{rowVerdict, tupleOf, headOf, refusedRow, rowOf, rowTuple, rowPayload, inLog, inPages, standingOf, locatedAt, locatedOf}
 use Rattle.rules.specs.declared.RowHead.{RowHead}
 use Rattle.rules.specs.declared.Located.{Located}

@@ -15,9 +15,9 @@ use Rattle.endian.proofs.Places.{part-take, part-drop}
 use Rattle.wal.specs.Read.{first}
 use Rattle.wal.specs.Walk.{entries}
 use Rattle.page.specs.Layout.{pageBytes, headBytes, dataType, pagesIn, pageAt, typeOf, bodyOf, slotOff, slotAt}
-use Rattle.page.specs.Fault.{verdict, accepted}
+use Rattle.refusals.specs.Verdict.{verdict, accepted}
 use Rattle.page.specs.Good.{TupleGood}
-use Rattle.page.specs.declared.Verdict.{Verdict}
+use Rattle.refusals.specs.declared.Verdict.{Verdict}
 use Rattle.rules.specs.Shape.{stamped}
 use Rattle.rules.specs.Order.{neverFull}
 use Rattle.rules.specs.Mend.{committed, topOf, decided}
@@ -33,7 +33,7 @@ use Rattle.images.specs.Tuples.{Lies, Stood, tupleIn, paged, Placed}
 use Rattle.images.specs.Page.{Sound, Fitting}
 use Rattle.images.proofs.Deciding.{top-fits}
 use Rattle.recovery.specs.Spot.{shiftedBy, nowhereBy, standingIn, Spotted}
-use Rattle.recovery.proofs.JudgeLaws.{then-refused, then-accepted}
+use Rattle.refusals.proofs.Then.{then-refused, then-accepted}
 
 -- ---- an image of a page, as one of the page area
 

@@ -9,7 +9,7 @@ use lib.ListN.{length}
 use borrow.Author.Tests.{eqb-true, eqb-false}
 use Rattle.endian.specs.Pick.{pick}
 use Rattle.wal.specs.Walk.{entries, endOf}
-use Rattle.page.specs.declared.Verdict.{Verdict}
+use Rattle.refusals.specs.declared.Verdict.{Verdict}
 use Rattle.rules.specs.Order.{count, isBegin, fullAt}
 use Rattle.rules.specs.Recover.{recoverVerdict, tableAfter, Recovered, recoverBy, recoverOf}
 use Rattle.rules.specs.declared.Answer.{Answer}

@@ -6,7 +6,7 @@ use mathlib.Core.List.{List}
 use mathlib.Core.Logic.{_⊎_}
 use lib.Dec.{eqb}
 use Rattle.endian.specs.Pick.{pick}
-use Rattle.page.specs.Fault.{verdict}
+use Rattle.refusals.specs.Verdict.{verdict}
 use Rattle.rules.specs.Row.{rowVerdict, tupleOf, Standing, inLog, inPages, standingOf}
 use Rattle.rules.specs.declared.RowHead.{RowHead}
 use Rattle.rules.specs.declared.Located.{Located}

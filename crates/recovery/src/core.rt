@@ -4,7 +4,7 @@ ghost use mathlib.Core.List.{[]};
 ghost use Rattle.crc32c.specs.Tables.{Tables};
 ghost use Rattle.rules.specs.Order.{fullAt};
 ghost use Rattle.rules.specs.Recover.{recoverVerdict, recoverBy, refused};
-ghost use Rattle.page.specs.Fault.{verdict};
+ghost use Rattle.refusals.specs.Verdict.{verdict};
 ghost use Rattle.recovery.specs.Judgement.{answerFrom};
 use crate::judge::judge;
 use crc32c::inner::Tables;

@@ -30,3 +30,9 @@ pub const PAGE_OVERFULL: u64 = 14;
 pub const NO_SUCH_PAGE: u64 = 15;
 
 pub const MAP_SHORT: u64 = 16;
+
+// A refusal's number and place; number 0 is none.
+pub struct Verdict {
+    pub number: u64,
+    pub place: u64,
+}

@@ -13,8 +13,8 @@ use Rattle.endian.specs.Pick.{pick}
 use Rattle.wal.specs.Entry.{Entry}
 use Rattle.page.specs.Layout.{bodyBytes, pageAt}
 use Rattle.page.specs.Packed.{roomFor}
-use Rattle.page.specs.Fault.{verdict, accepted}
-use Rattle.page.specs.declared.Verdict.{Verdict}
+use Rattle.refusals.specs.Verdict.{verdict, accepted}
+use Rattle.refusals.specs.declared.Verdict.{Verdict}
 use Rattle.page.proofs.Verdicts.{page-part}
 use Rattle.rules.specs.Mend.{committed, topOf, slotsFor}
 use Rattle.rules.specs.Recover.{isTight, tightFrom}

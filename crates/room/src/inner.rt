@@ -8,7 +8,7 @@ ghost use Rattle.endian.specs.Pick.{pick};
 ghost use Rattle.wal.specs.Walk.{entries};
 ghost use Rattle.page.specs.Layout.{pagesIn};
 ghost use Rattle.page.specs.Packed.{roomFor};
-ghost use Rattle.page.specs.Fault.{verdict, accepted};
+ghost use Rattle.refusals.specs.Verdict.{verdict, accepted};
 ghost use Rattle.rules.specs.Mend.{committed, slotsFor};
 ghost use Rattle.rules.specs.Recover.{isTight, tightFrom};
 ghost use Rattle.fates.specs.Fate.{Ordered};

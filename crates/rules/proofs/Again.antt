@@ -19,12 +19,13 @@ use Rattle.wal.specs.Walk.{entries, endOf}
 use Rattle.wal.proofs.Cuts.{cut-entries}
 use Rattle.page.specs.Layout.{pageBytes, pagesIn, pageAt, slotAt}
 use Rattle.page.specs.Good.{TupleGood}
-use Rattle.page.specs.Fault.{verdict, sizeWrong}
-use Rattle.page.specs.declared.Verdict.{Verdict}
+use Rattle.refusals.specs.Verdict.{verdict, _then_}
+use Rattle.page.specs.Fault.{sizeWrong}
+use Rattle.refusals.specs.declared.Verdict.{Verdict}
 use Rattle.page.proofs.FaultLaws.{sound-good, good-sound}
 use Rattle.page.proofs.Verdicts.{page-length}
 use Rattle.rules.specs.Shape.{isChange, beforeOf, afterOf}
-use Rattle.rules.specs.Order.{lastLsn, fullAt, orderFrom, endVerdict, logVerdict, _then_}
+use Rattle.rules.specs.Order.{lastLsn, fullAt, orderFrom, endVerdict, logVerdict}
 use Rattle.rules.specs.Mend.{committed, changes, lastOn, decided, mendBy, mend, Accepts}
 use Rattle.rules.specs.Recover.{recoverVerdict, mendedFrom, done, refused, recoverBy, recoverOf, Recovered}
 use Rattle.rules.specs.declared.Record.{Record}
@@ -34,7 +35,8 @@ use Rattle.rules.proofs.Accepted.{mend-accepted}
 use Rattle.rules.proofs.OrderLaws.{every-map, InTurn, in-turn, last-bounds, last-small}
 use Rattle.rules.proofs.ImageLaws.{InRange, images-bytes, images-of, tuple-images}
 use Rattle.rules.proofs.Range.{in-range}
-use Rattle.rules.proofs.Verdicts.{Accepted, is-accepted, accepted-is, then-zero}
+use Rattle.rules.proofs.Verdicts.{Accepted, is-accepted, accepted-is}
+use Rattle.refusals.proofs.Then.{then-zero}
 use Rattle.rules.proofs.Area.{page-mended, mended-alike}
 
 -- an answer of 0 comes from no refusal

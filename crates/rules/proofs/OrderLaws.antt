@@ -9,7 +9,7 @@ use lib.Dec.{ltb, eqb}
 use borrow.Author.Tests.{ltb-true, eq-eqb}
 use Rattle.endian.specs.Pick.{pick}
 use Rattle.wal.specs.Entry.{Entry, sizeOf, checkpoint}
-use Rattle.page.specs.declared.Verdict.{Verdict}
+use Rattle.refusals.specs.declared.Verdict.{Verdict}
 use Rattle.rules.specs.Shape.{both, isKnown, isChanging, isShaped, isOn, lsnOn}
 use Rattle.rules.specs.Order.{any, count, isBegin, lastLsn, inOrder, clashes, faultAfter, orElse, orderFrom}
 use Rattle.rules.specs.Mend.{lastOn}

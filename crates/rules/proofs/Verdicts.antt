@@ -17,28 +17,18 @@ use Rattle.wal.specs.Walk.{entries}
 use Rattle.page.specs.Layout.{pageBytes, bodyBytes, dataType, pagesIn, pageAt, typeOf, lsnOf}
 use Rattle.page.specs.Packed.{roomFor}
 use Rattle.page.specs.Good.{Good}
-use Rattle.page.specs.Fault.{verdict, accepted, judged, faultOf, sizeWrong}
-use Rattle.page.specs.declared.Verdict.{Verdict}
-use Rattle.page.specs.declared.Fault.{Fault}
-use Rattle.page.specs.declared.Fault.the-variants.{Sound, MagicOrType, Id, Checksum, Count, FreeStart, FreeEnd, Slot}
+use Rattle.refusals.specs.Verdict.{verdict, accepted, _then_}
+use Rattle.page.specs.Fault.{faultOf, lateAt, pageVerdict, firstBad, sizeWrong}
+use Rattle.refusals.specs.declared.Verdict.{Verdict}
+use Rattle.page.specs.declared.Fault.the-variants.{Sound}
+use Rattle.page.proofs.Verdicts.{page-fine, fine-page}
+use Rattle.refusals.proofs.Then.{then-zero, zero-then}
 use Rattle.rules.specs.Shape.{both, either, isChange, pageOf, slotOf, isOn, topOn}
-use Rattle.rules.specs.Order.{lastLsn, logVerdict, _then_}
+use Rattle.rules.specs.Order.{lastLsn, logVerdict}
 use Rattle.rules.specs.Mend.{committed, topOf, slotsFor, Accepts}
 use Rattle.rules.specs.Recover.{pagesFrom, isStray, strayFrom, isTouched, isTight, tightFrom, recoverVerdict}
 use Rattle.rules.proofs.Tests.{both-true, either-false, false-true}
 use Rattle.rules.proofs.OrderLaws.{Every}
-
--- ---- one verdict after another
-
-pub then-zero : (v w : Verdict) → (v then w) .number ≡ 0 → (v .number ≡ 0) × (w .number ≡ 0)
-then-zero v w h = go (eqb (v .number) 0) refl h
-  where
-    go : (b : Bool) → eqb (v .number) 0 ≡ b → pick b w v .number ≡ 0 → (v .number ≡ 0) × (w .number ≡ 0)
-    go true e k = (eqb-true (v .number) 0 e, k)
-    go false e k = absurd (eqb-false (v .number) 0 e k)
-
-pub zero-then : (v w : Verdict) → v .number ≡ 0 → w .number ≡ 0 → (v then w) .number ≡ 0
-zero-then v w h k = rw (eq-eqb (v .number) 0 h) k
 
 -- a test that refuses did not hold
 unrefused : (b : Bool) (v w : Verdict) → (v .number ≡ 0 → ⊥) → pick b v w .number ≡ 0 → (b ≡ false) × (w .number ≡ 0)
@@ -47,16 +37,6 @@ unrefused false v w n h = (refl, h)
 
 -- ---- pages
 
-judged-zero : (f : Fault) (i : ℕ) (v : Verdict) → judged f i v .number ≡ 0 → (f ≡ Sound) × (v .number ≡ 0)
-judged-zero Sound i v h = (refl, h)
-judged-zero MagicOrType i v h = absurd (omega arith)
-judged-zero Id i v h = absurd (omega arith)
-judged-zero Checksum i v h = absurd (omega arith)
-judged-zero Count i v h = absurd (omega arith)
-judged-zero FreeStart i v h = absurd (omega arith)
-judged-zero FreeEnd i v h = absurd (omega arith)
-judged-zero (Slot k) i v h = absurd (omega arith)
-
 -- page i passes 11 and 12
 pub record Sane (magic floor last : ℕ) (s : List ℕ) (i : ℕ) : Type 0 where
   pub sound : faultOf magic i (pageAt i s) ≡ Sound
@@ -64,23 +44,23 @@ pub record Sane (magic floor last : ℕ) (s : List ℕ) (i : ℕ) : Type 0 where
 
 module _ (magic floor last : ℕ) (s : List ℕ) where
   pub pages-sane : (n i : ℕ) → pagesFrom magic floor last s n i .number ≡ 0 → (j : ℕ) → i ≤ j → j < i + n → Sane magic floor last s j
-  unfolding pagesFrom
+  unfolding firstBad
   pages-sane zero i h j a b = absurd (omega arith)
   pages-sane (suc n) i h j a b =
-      let z = judged-zero (faultOf magic i (pageAt i s)) i _ h in
-      let y = unrefused (ltb (max floor last) (lsnOf (pageAt i s))) (verdict 12 i) _ (λ k. omega arith) (z .1) in
-      let here : Sane magic floor last s i = record { sound = z .0; lsnKnown = ltb-false _ _ (y .0) } in
+      let y = then-zero (pageVerdict (lateAt (max floor last)) magic i (pageAt i s)) _ h in
+      let z = page-fine (lateAt (max floor last)) magic i (pageAt i s) (y .0) in
+      let here : Sane magic floor last s i = record { sound = z .0; lsnKnown = ltb-false _ _ (z .1) } in
       elim (decLe (suc i) j) [
         | yes l ↦ pages-sane n (suc i) (y .1) j l (omega arith)
         | no l ↦ let e : j ≡ i = omega arith in rw e here
       ]
 
   sane-pages : (n i : ℕ) → ((j : ℕ) → i ≤ j → j < i + n → Sane magic floor last s j) → pagesFrom magic floor last s n i .number ≡ 0
-  unfolding pagesFrom
+  unfolding firstBad
   sane-pages zero i h = refl
   sane-pages (suc n) i h =
       let x = h i (omega arith) (omega arith) in
-      rw (x .sound, le-ltb _ _ (x .lsnKnown)) (sane-pages n (suc i) (λ j a b. h j (omega arith) (omega arith)))
+      rw (fine-page (lateAt (max floor last)) magic i (pageAt i s) (x .sound) (le-ltb _ _ (x .lsnKnown))) (sane-pages n (suc i) (λ j a b. h j (omega arith) (omega arith)))
 
 -- ---- changes
 

@@ -11,8 +11,8 @@ use Rattle.wal.specs.Read.{headerFault, readAt, first}
 use Rattle.wal.specs.Walk.{entries, endOf}
 use Rattle.wal.specs.declared.Reading.{Reading}
 use Rattle.wal.specs.declared.Reading.the-variants.{Whole, End, Torn, Damage}
-use Rattle.page.specs.Fault.{verdict, accepted}
-use Rattle.page.specs.declared.Verdict.{Verdict}
+use Rattle.refusals.specs.Verdict.{verdict, accepted, _then_}
+use Rattle.refusals.specs.declared.Verdict.{Verdict}
 use Rattle.rules.specs.Shape.{both, either, isKnown, isChange, isShaped, sameSlot}
 
 -- how many of some entries pass a test, and whether one does
@@ -108,11 +108,6 @@ endVerdict End at = accepted
 endVerdict Torn at = accepted
 endVerdict Damage at = verdict entryDamaged at
 
--- the first of two verdicts that refuses
-abbrev pub _then_ : Verdict → Verdict → Verdict
-v then w = pick (eqb (v .number) 0) w v
-
-infixr 20 _then_
 -- 2 and 3; then entry by entry, 5 to 10 in turn, and 4 where the entries end in damage
 unfoldable pub logVerdict : (ℕ → Bool) → List ℕ → Verdict
 logVerdict full s =

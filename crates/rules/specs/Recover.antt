@@ -4,29 +4,27 @@ use mathlib.Core.List.{List, [], _∷_, _++_}
 use mathlib.Core.Bool.{Bool, not}
 use lib.ListN.{length, drop}
 use lib.Dec.{ltb, leb, eqb}
-use Rattle.refusals.specs.Refusal.{pageArea, pageLsn, noDataPage, pageOverfull}
+use Rattle.refusals.specs.Refusal.{pageArea, noDataPage, pageOverfull}
 use Rattle.endian.specs.Pick.{pick, consIf}
 use Rattle.wal.specs.Entry.{Entry, sizeOf, begin, commit, rollback}
 use Rattle.wal.specs.Read.{first}
 use Rattle.wal.specs.Walk.{entries, endOf}
-use Rattle.page.specs.Layout.{bodyBytes, dataType, pagesIn, pageAt, typeOf, lsnOf}
+use Rattle.page.specs.Layout.{bodyBytes, dataType, pagesIn, pageAt, typeOf}
 use Rattle.page.specs.Packed.{roomFor}
-use Rattle.page.specs.Fault.{verdict, accepted, judged, faultOf, sizeWrong}
-use Rattle.page.specs.declared.Verdict.{Verdict}
+use Rattle.refusals.specs.Verdict.{verdict, accepted, _then_}
+use Rattle.page.specs.Fault.{lateAt, firstBad, sizeWrong}
+use Rattle.refusals.specs.declared.Verdict.{Verdict}
 use Rattle.rules.specs.Shape.{both, either, isChange, pageOf}
-use Rattle.rules.specs.Order.{one, count, any, is, isBegin, lastLsn, fullAt, logVerdict, _then_}
+use Rattle.rules.specs.Order.{one, count, any, is, isBegin, lastLsn, fullAt, logVerdict}
 use Rattle.rules.specs.Mend.{committed, topOf, slotsFor, mend}
 use Rattle.rules.specs.declared.Answer.{Answer}
 use Rattle.rules.specs.declared.Record.{Record}
 
 -- ---- refusals 11 to 14, each the first in its order
 
--- page by page, 11 before 12
-unfoldable pub pagesFrom : ℕ → ℕ → ℕ → List ℕ → ℕ → ℕ → Verdict
-pagesFrom magic floor last s zero i = accepted
-pagesFrom magic floor last s (suc n) i =
-    judged (faultOf magic i (pageAt i s)) i
-    (pick (ltb (max floor last) (lsnOf (pageAt i s))) (verdict pageLsn i) (pagesFrom magic floor last s n (suc i)))
+-- page by page, 11 before 12: an LSN above both the floor and the last LSN
+abbrev pub pagesFrom : ℕ → ℕ → ℕ → List ℕ → ℕ → ℕ → Verdict
+pagesFrom magic floor last s n i = firstBad (lateAt (max floor last)) magic s n i
 
 -- a change to a page beyond the lent ones or not of type 1
 unfoldable pub isStray : List ℕ → Entry → Bool

@@ -10,10 +10,10 @@ use Rattle.wal.specs.Entry.{entryOf, delete, update}
 use Rattle.wal.specs.Walk.{entries, views}
 use Rattle.wal.specs.declared.EntryView.{EntryView}
 use Rattle.page.specs.Layout.{pageBytes, headBytes, dataType, pagesIn, pageAt, typeOf, bodyOf, slotOff, slotAt, rowHead, xminOf, xmaxOf, deletedOf, padOf, payloadOf}
-use Rattle.page.specs.Fault.{verdict, accepted}
-use Rattle.page.specs.declared.Verdict.{Verdict}
+use Rattle.refusals.specs.Verdict.{verdict, accepted, _then_}
+use Rattle.refusals.specs.declared.Verdict.{Verdict}
 use Rattle.rules.specs.Shape.{ChangeOf, both, isOn, slotOf, keyBytes}
-use Rattle.rules.specs.Order.{neverFull, _then_}
+use Rattle.rules.specs.Order.{neverFull}
 use Rattle.rules.specs.Mend.{committed, winner, decided}
 use Rattle.rules.specs.Recover.{recoverVerdict}
 use Rattle.rules.specs.declared.RowHead.{RowHead}

@@ -1,4 +1,4 @@
--- What recovery counts over the entries of an accepted log.
+-- Internal: what recovery counts over the entries of an accepted log.
 use Prim.Native.Nat.{ℕ, _<_}
 use mathlib.Core.Path.{_≡_}
 use mathlib.Core.List.{List}

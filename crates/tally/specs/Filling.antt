@@ -1,4 +1,4 @@
--- What one entry does to a flat table of which n records are filled.
+-- Internal: what one entry does to a flat table of which n records are filled.
 use Prim.Native.Nat.{ℕ, _+_, _*_, _≤_, _<_}
 use mathlib.Core.Path.{_≡_}
 use mathlib.Core.List.{List}

@@ -1,4 +1,4 @@
--- The checksums of the pieces of a list, mixed into one number.
+-- Internal: the checksums of the pieces of a list, mixed into one number.
 use mathlib.Core.List.{List}
 use Prim.Native.Nat.{ℕ, zero, suc, _*_}
 use lib.Bits.{bitXor}

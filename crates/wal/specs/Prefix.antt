@@ -1,4 +1,4 @@
--- The places that the walk comes by, and the entries before such a place and from it on.
+-- Internal: the places that the walk comes by, and the entries before such a place and from it on.
 use Prim.Native.Nat.{ℕ, _+_}
 use mathlib.Core.Path.{_≡_}
 use mathlib.Core.List.{List, [], _∷_, map}

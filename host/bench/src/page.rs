@@ -1,6 +1,6 @@
 //! Verification of 4,096 pages of 80 rows each, beside the checksum alone on the same bytes, in one run.
+use bench::best;
 use std::hint::black_box;
-use std::time::Instant;
 
 extern "C" {
     fn timed_crc32c(s: *const u8, len: usize, piece: usize) -> u32;
@@ -76,17 +76,6 @@ fn area(shuffled: bool) -> Vec<u8> {
     pages
 }
 
-/// Seconds for one pass, the best of five.
-fn best<T>(mut pass: impl FnMut() -> T) -> f64 {
-    (0..5)
-        .map(|_| {
-            let start = Instant::now();
-            black_box(pass());
-            start.elapsed().as_secs_f64()
-        })
-        .fold(f64::INFINITY, f64::min)
-}
-
 fn main() {
     println!("{PAGES} pages of {ROWS} rows, best of 5, GB/s (time in terms of the checksum's)");
     println!(
@@ -97,8 +86,8 @@ fn main() {
         let mut pages = area(shuffled);
         assert_eq!(verify(&pages), 0, "{name}: a good page is refused");
         let bytes = pages.len() as f64;
-        let c = best(|| checksums(black_box(&pages), BODY));
-        let v = best(|| verify(black_box(&pages)));
+        let c = best(5, || checksums(black_box(&pages), BODY));
+        let v = best(5, || verify(black_box(&pages)));
         println!(
             "{name:>16}  {:>10.2}  {:>16}",
             bytes / c / 1e9,

@@ -1,6 +1,6 @@
 //! The proved walk over a log beside a Rust loop that does the same checks, in one run.
+use bench::{best, machine, sliced};
 use std::hint::black_box;
-use std::time::Instant;
 
 extern "C" {
     fn timed_wal_end(log: *const u8, len: usize) -> usize;
@@ -9,74 +9,6 @@ extern "C" {
 /// Where the proved walk ends; it makes its checksum tables once.
 fn proved(log: &[u8]) -> usize {
     unsafe { timed_wal_end(log.as_ptr(), log.len()) }
-}
-
-const fn tables() -> [[u32; 256]; 8] {
-    let mut t = [[0u32; 256]; 8];
-    let mut k = 0;
-    while k < 256 {
-        let mut c = k as u32;
-        let mut i = 0;
-        while i < 8 {
-            c = (c >> 1) ^ (0x82F6_3B78 * (c & 1));
-            i += 1;
-        }
-        t[0][k] = c;
-        k += 1;
-    }
-    let mut j = 1;
-    while j < 8 {
-        let mut k = 0;
-        while k < 256 {
-            let c = t[j - 1][k];
-            t[j][k] = (c >> 8) ^ t[0][(c & 255) as usize];
-            k += 1;
-        }
-        j += 1;
-    }
-    t
-}
-
-static TABLES: [[u32; 256]; 8] = tables();
-
-/// Slicing by 8.
-fn sliced(s: &[u8]) -> u32 {
-    let t = &TABLES;
-    let mut c = !0u32;
-    let mut words = s.chunks_exact(8);
-    for w in &mut words {
-        let x = u64::from_le_bytes(w.try_into().unwrap()) ^ c as u64;
-        c = (0..8).fold(0, |r, i| r ^ t[7 - i][((x >> (8 * i)) & 255) as usize]);
-    }
-    for &b in words.remainder() {
-        c = (c >> 8) ^ t[0][((c ^ b as u32) & 255) as usize];
-    }
-    !c
-}
-
-#[cfg(target_arch = "x86_64")]
-#[target_feature(enable = "sse4.2")]
-unsafe fn machine_sse42(s: &[u8]) -> u32 {
-    use std::arch::x86_64::{_mm_crc32_u64, _mm_crc32_u8};
-    let mut c = !0u32 as u64;
-    let mut words = s.chunks_exact(8);
-    for w in &mut words {
-        c = _mm_crc32_u64(c, u64::from_le_bytes(w.try_into().unwrap()));
-    }
-    let mut c = c as u32;
-    for &b in words.remainder() {
-        c = _mm_crc32_u8(c, b);
-    }
-    !c
-}
-
-/// The machine's crc32 instruction, where there is one.
-fn machine(s: &[u8]) -> u32 {
-    #[cfg(target_arch = "x86_64")]
-    if std::is_x86_feature_detected!("sse4.2") {
-        return unsafe { machine_sse42(s) };
-    }
-    sliced(s)
 }
 
 fn u32_at(s: &[u8], at: usize) -> usize {
@@ -140,20 +72,9 @@ fn log_of(n: usize) -> Vec<u8> {
     log
 }
 
-/// Seconds for one walk, the best of five.
-fn best(mut pass: impl FnMut() -> usize) -> f64 {
-    (0..5)
-        .map(|_| {
-            let start = Instant::now();
-            black_box(pass());
-            start.elapsed().as_secs_f64()
-        })
-        .fold(f64::INFINITY, f64::min)
-}
-
 fn main() {
     println!("Walk over a log of 16 MiB, best of 5: million entries/s, MB/s (ratio to Rust with slicing by 8).");
-    println!("The proved walk slices by 8 too, from 640 bytes on after a sparse multiple of the polynomial.");
+    println!("The proved walk slices by 16, from 960 bytes on after a sparse multiple of the polynomial.");
     println!(
         "{:>12}  {:>24}  {:>24}  {:>24}",
         "entry bytes", "proved", "Rust, slicing by 8", "Rust, machine's crc32"
@@ -164,9 +85,9 @@ fn main() {
         assert_eq!(proved(&log), end, "the proved walk of entries of {n} bytes");
         assert_eq!(walk(&log, sliced), end);
         assert_eq!(walk(&log, machine), end);
-        let p = best(|| proved(black_box(&log)));
-        let s = best(|| walk(black_box(&log), sliced));
-        let m = best(|| walk(black_box(&log), machine));
+        let p = best(5, || proved(black_box(&log)));
+        let s = best(5, || walk(black_box(&log), sliced));
+        let m = best(5, || walk(black_box(&log), machine));
         let show = |t: f64| {
             let entries = ((end - 32) / n) as f64 / t / 1e6;
             format!("{entries:.3}, {:.0} ({:.2}x)", end as f64 / t / 1e6, s / t)

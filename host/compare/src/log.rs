@@ -18,18 +18,34 @@ pub(crate) fn compare(subject: &mut Subject, seen: &mut Seen) {
     for at_end in [false, true] {
         let library = library::log_open(log, at_end);
         let oracle = twin::verdict(oracle::log_open(log, at_end));
-        let call = format_args!("at_end {at_end}");
-        seen.answers("log_open", library.number, call, &library, &oracle);
+        seen.answers(
+            "log_open",
+            library.number,
+            format_args!("at_end {at_end}"),
+            &library,
+            &oracle,
+        );
     }
     for place in places(subject) {
         let library = library::log_forward(log, place);
         let oracle = twin::forward(place, oracle::forward(log, place));
-        let call = format_args!("from {place}");
-        seen.answers("log_forward", library.kind, call, &library, &oracle);
+        seen.answers(
+            "log_forward",
+            library.kind,
+            format_args!("from {place}"),
+            &library,
+            &oracle,
+        );
 
         let library = library::log_backward(log, place);
         let oracle = twin::backward(place, oracle::backward(log, place));
-        seen.answers("log_backward", library.kind, call, &library, &oracle);
+        seen.answers(
+            "log_backward",
+            library.kind,
+            format_args!("from {place}"),
+            &library,
+            &oracle,
+        );
     }
 }
 
@@ -42,8 +58,13 @@ fn checksums(subject: &mut Subject, seen: &mut Seen) {
         for part in [0..bytes.len(), start..end] {
             let library = library::crc32c(&bytes[part.clone()]);
             let oracle = oracle::crc32c(&bytes[part.clone()]);
-            let call = format_args!("of {name} {part:?}");
-            seen.answers("crc32c", 0, call, &library, &oracle);
+            seen.answers(
+                "crc32c",
+                0,
+                format_args!("of {name} {part:?}"),
+                &library,
+                &oracle,
+            );
         }
     }
 }

@@ -40,8 +40,13 @@ fn visible_rows(subject: &mut Subject, seen: &mut Seen) {
     let mut next = |page: u64, slot: u16| {
         let library = library::next_visible(case.magic, &case.pages, page, slot);
         let oracle = twin::visible(oracle::next_visible(case.magic, &case.pages, page, slot));
-        let call = format_args!("from page {page} slot {slot}");
-        seen.answers("next_visible", library.number, call, &library, &oracle);
+        seen.answers(
+            "next_visible",
+            library.number,
+            format_args!("from page {page} slot {slot}"),
+            &library,
+            &oracle,
+        );
         if library.found == 1 {
             seen.event("visible row");
         }
@@ -84,8 +89,13 @@ fn free_maps(subject: &mut Subject, seen: &mut Seen) {
         let (left, edges_kept) = lent.taken_back();
         let mut expected = before;
         let oracle = twin::free_map(oracle::free_map(case.magic, &case.pages, &mut expected));
-        let call = format_args!("into {length} bytes");
-        seen.answers("free_map", library.number, call, &library, &oracle);
+        seen.answers(
+            "free_map",
+            library.number,
+            format_args!("into {length} bytes"),
+            &library,
+            &oracle,
+        );
         seen.items(format_args!("map of {length} bytes"), &left, &expected);
         seen.must(edges_kept, || {
             format!("free_map into {length} bytes wrote outside the map")

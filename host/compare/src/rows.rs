@@ -20,12 +20,16 @@ pub(crate) fn compare(subject: &mut Subject, seen: &mut Seen) {
         let library = library::read_row(case.magic, case.floor, pages, log, page, slot);
         let oracle = oracle::read_row(case.magic, case.floor, pages, log, page, slot);
         let oracle = twin::row(oracle);
-        let call = format_args!("page {page} slot {slot}");
-        seen.answers("read_row", library.number, call, &library, &oracle);
+        seen.answers(
+            "read_row",
+            library.number,
+            format_args!("page {page} slot {slot}"),
+            &library,
+            &oracle,
+        );
         if library == oracle {
-            let what = format_args!("payload of page {page} slot {slot}");
             seen.items(
-                what,
+                format_args!("payload of page {page} slot {slot}"),
                 library.payload(pages, log),
                 oracle.payload(pages, log),
             );

@@ -1,11 +1,12 @@
 //! What a refusal means to the one who reads it: where it stands, what is found there and what to do.
 
 use library::refusal::{self, Place};
-use library::{Verdict, PAGE_BYTES, STEP_ENTRY};
+use library::{Verdict, PAGE_BYTES};
 
 use crate::args::Parsed;
 use crate::failure::Failure;
-use crate::input::{verdict_fields, Log, Pages, Read};
+use crate::found::{after_damage, found, is_page_file, is_swapped, After};
+use crate::input::{head_fields, Log, Read};
 use crate::json::Json;
 use crate::output::Output;
 use crate::show;
@@ -21,8 +22,9 @@ pub fn unless_refused(
         return Ok(());
     }
     if parsed.flag("--json") {
-        let mut fields = verdict_fields(parsed, verdict);
+        let mut fields = head_fields(parsed, "refused", verdict);
         fields.extend(refusal_fields(verdict, read));
+        fields.extend(read.fields());
         output.line(Json::Object(fields))?;
         return Err(Failure::Refused(String::new()));
     }
@@ -40,7 +42,7 @@ pub fn refusal_fields(verdict: Verdict, read: Read) -> Vec<(&'static str, Json)>
         ("place_is", place_is.into()),
         ("meaning", meaning(verdict.number).into()),
         ("found", found(verdict, read).map_or(Json::Null, Json::Text)),
-        ("advice", advice(verdict.number).into()),
+        ("advice", Json::Text(advice(verdict, read))),
     ]
 }
 
@@ -63,7 +65,7 @@ pub fn text(verdict: Verdict, read: Read) -> String {
     if let Some(found) = found(verdict, read) {
         text += &format!("  found:      {found}\n");
     }
-    text += &format!("  what to do: {}\n", advice(number));
+    text += &format!("  what to do: {}\n", advice(verdict, read));
     text + "No file was changed."
 }
 
@@ -77,84 +79,45 @@ fn meaning(number: u64) -> &'static str {
     })
 }
 
-/// What stands at the place of a refusal.
-fn found(verdict: Verdict, read: Read) -> Option<String> {
-    match place_of(verdict.number) {
-        Place::PageIndex => found_page(read.pages?, verdict.place),
-        Place::LogOffset => found_entry(read.log?, verdict.place),
-        Place::Nothing => match verdict.number {
-            refusal::PAGE_AREA => Some(found_length(read.pages?)),
-            refusal::LOG_TOO_LONG => Some(format!("{} bytes", read.log?.length)),
-            refusal::LOG_HEADER => Some(found_header(read.log?)),
-            refusal::NO_SUCH_PAGE => Some(format!(
-                "pages 0 to {}",
-                read.pages?.count().saturating_sub(1)
-            )),
-            _ => None,
-        },
+/// What to do about a refusal, with what is known of the files.
+fn advice(verdict: Verdict, read: Read) -> String {
+    if is_swapped(verdict, read) {
+        return "the page file starts with WALN, as logs do: give PAGES first, then LOG"
+            .to_string();
+    }
+    let general = general(verdict.number);
+    if is_page_file(verdict, read) {
+        return format!(
+            "{general}; by its length it may be a page file: PAGES comes first, then LOG"
+        );
+    }
+    match read.log.and_then(|log| until(verdict, log)) {
+        Some(more) => format!("{general}; {more}"),
+        None => general.to_string(),
     }
 }
 
-fn found_length(pages: &Pages) -> String {
-    let length = pages.length;
-    let (whole, left) = (length / PAGE_BYTES as u64, length % PAGE_BYTES as u64);
-    format!("{length} bytes, which are {whole} pages and {left} bytes")
-}
-
-fn found_header(log: &Log) -> String {
-    let start = &log.bytes[..log.bytes.len().min(6)];
-    format!(
-        "{} bytes, which start with '{}'",
-        log.bytes.len(),
-        show::hex(start)
-    )
-}
-
-fn found_page(pages: &Pages, index: u64) -> Option<String> {
-    let page = pages.page(index)?;
-    let number = |at: usize| {
-        page[at..]
-            .first_chunk()
-            .map_or(0, |bytes| u64::from_le_bytes(*bytes))
-    };
-    Some(format!(
-        "magic {:#x} (looked for {:#x}, {}), type {} {}, id {}, LSN {}, checksum {:08x} (of the body {:08x})",
-        number(0),
-        pages.magic,
-        pages.magic_from(),
-        page[8],
-        show::page_type(page[8]),
-        number(16),
-        number(24),
-        number(12) as u32,
-        library::crc32c(&page[64..]),
-    ))
-}
-
-fn found_entry(log: &Log, place: u64) -> Option<String> {
-    let step = library::log_forward(&log.bytes, place);
-    if step.kind != STEP_ENTRY {
-        let length = log.bytes.get(place as usize..)?.first_chunk()?;
-        return Some(format!(
-            "no whole entry; its length reads {}",
-            u32::from_le_bytes(*length)
-        ));
+/// How to go on with the log before a damaged entry, and what that leaves out.
+fn until(verdict: Verdict, log: &Log) -> Option<String> {
+    if verdict.number != refusal::ENTRY_DAMAGED {
+        return None;
     }
-    let target = match show::target(&log.bytes, &step) {
-        Some((page, slot)) => format!(", page {page} slot {slot}"),
-        None => String::new(),
+    let After { zeros, next, bytes } = after_damage(log, verdict.place)?;
+    let left_out = match next {
+        _ if zeros => format!("the {bytes} zero bytes"),
+        None => format!("the {bytes} bytes from there on, in which no whole entry follows"),
+        Some(next) => format!(
+            "the {bytes} bytes from there on, with {} or more; transactions that end only there count as unended",
+            show::count(next.entries, "whole entry", "whole entries")
+        ),
     };
     Some(format!(
-        "entry of {} bytes, LSN {}, transaction {}, type {} {}{target}",
-        step.length,
-        step.lsn,
-        step.transaction,
-        step.entry_type,
-        show::entry_type(step.entry_type),
+        "if there is no other copy, `recover` with --log-until {} takes only the log before that place, as if the power had failed there, and leaves out {left_out}",
+        verdict.place
     ))
 }
 
-fn advice(number: u64) -> &'static str {
+fn general(number: u64) -> &'static str {
     match number {
         refusal::PAGE_AREA => "see that this is the page file and was copied whole; more than 4096 pages are beyond this version",
         refusal::LOG_TOO_LONG => "see that this is the log of these pages; logs of more than 16 MiB are beyond this version",

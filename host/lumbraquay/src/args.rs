@@ -1,11 +1,15 @@
 //! The words of the command line, by what a command takes. Help texts come from the same lists.
 
+use std::cell::Cell;
 use std::collections::BTreeMap;
 use std::ffi::{OsStr, OsString};
 use std::path::Path;
 
 use crate::failure::Failure;
+use crate::files;
+use crate::json::Json;
 use crate::output::Output;
+use crate::show::Names;
 
 pub struct Command {
     pub name: &'static str,
@@ -58,6 +62,16 @@ pub const FLOOR: Choice = Choice::value(
     "all up to this LSN is known to be flushed; 0 where not given",
 );
 
+pub const QUIET: Choice = Choice::flag(
+    "--quiet",
+    "print nothing but failures; the exit status tells the rest",
+);
+pub const LOG_UNTIL: Choice = Choice::value(
+    "--log-until",
+    "OFFSET",
+    "take only the log before this byte, as if the power had failed there",
+);
+
 impl Command {
     pub fn usage(&self) -> String {
         let mut text = format!("lumbraquay {}", self.name);
@@ -87,7 +101,7 @@ impl Command {
             .iter()
             .map(|(name, about)| (name.to_string(), *about));
         for (name, about) in takes.chain(choices) {
-            text += &format!("  {name:<16} {about}\n");
+            text += &format!("  {name:<18} {about}\n");
         }
         if !self.more.is_empty() {
             text += &format!("\n{}\n", self.more);
@@ -102,6 +116,8 @@ pub struct Parsed {
     given: Vec<OsString>,
     /// Each option that was given, with its value; a flag has an empty one.
     chosen: BTreeMap<&'static str, OsString>,
+    /// The magic of the pages, once it is known.
+    pub magic: Cell<Option<u64>>,
 }
 
 impl Parsed {
@@ -111,6 +127,7 @@ impl Parsed {
             command,
             given: Vec::new(),
             chosen: BTreeMap::new(),
+            magic: Cell::new(None),
         };
         let mut words = words.iter();
         let mut only_names = false;
@@ -167,6 +184,10 @@ impl Parsed {
         if let Some((name, about)) = takes.get(self.given.len()) {
             return Err(self.wrong(format!("{name} is missing: {about}")));
         }
+        let standard = self.given.iter().filter(|given| *given == files::STANDARD);
+        if standard.count() > 1 {
+            return Err(self.wrong("only one file can be standard input".to_string()));
+        }
         match self.given.get(takes.len()) {
             None => Ok(()),
             Some(word) => Err(self.wrong(format!(
@@ -179,6 +200,26 @@ impl Parsed {
     /// A usage failure of this command.
     pub fn wrong(&self, what: String) -> Failure {
         Failure::Usage(format!("{what}\nuse: {}", self.command.usage()))
+    }
+
+    /// The fields of the files that were given, as far as their names are known, and of the magic.
+    pub fn fields(&self) -> Vec<(&'static str, Json)> {
+        let mut fields = Vec::new();
+        for ((name, _), given) in self.command.takes.iter().zip(&self.given) {
+            let given = Json::text(given.to_string_lossy());
+            match *name {
+                "PAGES" => fields.push(("pages_file", given)),
+                "LOG" => fields.push(("log_file", given)),
+                _ => (),
+            }
+        }
+        let known = self
+            .magic
+            .get()
+            .or(self.chosen_number("--magic").ok().flatten());
+        let magic = known.map(|magic| Json::text(format_args!("{magic:#x}")));
+        fields.push(("magic", magic.unwrap_or(Json::Null)));
+        fields
     }
 
     pub fn name(&self) -> &'static str {
@@ -208,6 +249,30 @@ impl Parsed {
         value
             .map(|value| self.parse(name, value, u64::MAX))
             .transpose()
+    }
+
+    /// One of these names, which may be given by its number.
+    pub fn chosen_name(&self, option: &str, names: Names) -> Result<Option<&'static str>, Failure> {
+        let Some(value) = self.chosen.get(option) else {
+            return Ok(None);
+        };
+        let text = value.to_string_lossy();
+        let known = names
+            .iter()
+            .find(|(number, name)| name.eq_ignore_ascii_case(&text) || number.to_string() == text);
+        match known {
+            Some((_, name)) => Ok(Some(name)),
+            None => {
+                let names: Vec<String> = names
+                    .iter()
+                    .map(|(number, name)| format!("{name} ({number})"))
+                    .collect();
+                Err(self.wrong(format!(
+                    "{option} is '{text}', none of {}",
+                    names.join(", ")
+                )))
+            }
+        }
     }
 
     fn parse(&self, name: &str, word: &OsStr, most: u64) -> Result<u64, Failure> {

@@ -1,39 +1,133 @@
 //! Files read whole up to a limit, and written so that no half-written one is ever seen under its name.
 
 use std::ffi::OsString;
-use std::fs::{self, File, Metadata, OpenOptions};
-use std::io::{ErrorKind, Read, Write};
+use std::fs::{self, File, Metadata};
+use std::io::{ErrorKind, Read};
+use std::os::fd::AsFd;
+use std::os::unix::fs::MetadataExt;
 use std::path::{Path, PathBuf};
 
+use crate::done::Mark;
 use crate::failure::Failure;
+use crate::fresh::{give_rights, sweep, unless_stopped, Fresh};
+use crate::memory;
+use crate::slow::{self, Work};
+use crate::sys::Signals;
 
-/// How many backups or temporary files of one file may stand side by side.
-const MOST_NAMES: u32 = 1_000;
+/// How many bytes are written or compared at a time.
+pub const PIECE_BYTES: usize = 1 << 16;
 
 /// What a file holds.
 pub struct Whole {
     pub bytes: Vec<u8>,
     /// How many bytes the file has; more than were read if it is over the limit.
     pub length: u64,
+    pub seen: Seen,
 }
 
-/// Reads a file. Of one that is over the limit no more are read than one byte past it, which the library refuses.
+/// The name that stands for standard input and output.
+pub const STANDARD: &str = "-";
+
+pub fn is_standard(path: &Path) -> bool {
+    path == Path::new(STANDARD)
+}
+
+/// A file that was read, and how it stood then. It stays open.
+pub struct Seen {
+    pub path: PathBuf,
+    pub file: File,
+    pub stamp: Stamp,
+}
+
+/// What changes when a file is written or replaced.
+#[derive(Clone, Copy, PartialEq, Eq)]
+pub struct Stamp {
+    device: u64,
+    inode: u64,
+    size: u64,
+    written: (i64, i64),
+    /// Of rights and names too.
+    changed: (i64, i64),
+}
+
+impl Stamp {
+    pub fn of(found: &Metadata) -> Stamp {
+        Stamp {
+            device: found.dev(),
+            inode: found.ino(),
+            size: found.size(),
+            written: (found.mtime(), found.mtime_nsec()),
+            changed: (found.ctime(), found.ctime_nsec()),
+        }
+    }
+
+    pub fn is_same_file(&self, other: &Stamp) -> bool {
+        (self.device, self.inode) == (other.device, other.inode)
+    }
+
+    pub fn is_unwritten(&self, other: &Stamp) -> bool {
+        (self.size, self.written) == (other.size, other.written)
+    }
+}
+
+impl Seen {
+    pub fn open(path: &Path) -> Result<Seen, Failure> {
+        let open = |error| Failure::file("open", path, error);
+        let file = match is_standard(path) {
+            true => std::io::stdin()
+                .as_fd()
+                .try_clone_to_owned()
+                .map(File::from),
+            false => File::open(path),
+        };
+        let file = file.map_err(open)?;
+        let found = file.metadata().map_err(open)?;
+        if found.is_dir() {
+            return Err(Failure::file("read", path, "it is a directory"));
+        }
+        Ok(Seen {
+            path: path.to_path_buf(),
+            stamp: Stamp::of(&found),
+            file,
+        })
+    }
+
+    /// Reads the file. Of one that is over the limit no more are read than one byte past it, which the library refuses.
+    pub fn read(self, limit: usize) -> Result<Whole, Failure> {
+        let most = limit as u64 + 1;
+        let mut bytes = memory::room(self.stamp.size.min(most) as usize + 1)?;
+        match memory::asking(|| (&self.file).take(most).read_to_end(&mut bytes)) {
+            Ok(read) => Ok(Whole {
+                bytes,
+                length: self.stamp.size.max(read as u64),
+                seen: self,
+            }),
+            Err(error) => Err(Failure::file("read", &self.path, error)),
+        }
+    }
+
+    /// Fails unless the file, if it is a plain one, stands as it did when it was opened, under its name.
+    pub fn must_be_as_read(&self) -> Result<(), Failure> {
+        let cannot = |error| Failure::file("use", &self.path, error);
+        let own = self.file.metadata().map_err(cannot)?;
+        if !own.is_file() {
+            return Ok(());
+        }
+        let is_named = is_standard(&self.path) || {
+            let named = fs::metadata(&self.path).map_err(cannot)?;
+            Stamp::of(&named) == self.stamp
+        };
+        if Stamp::of(&own) == self.stamp && is_named {
+            return Ok(());
+        }
+        let why = "another process changed it after it was read; no file was changed";
+        Err(Failure::file("use", &self.path, why))
+    }
+}
+
 pub fn read(path: &Path, limit: usize) -> Result<Whole, Failure> {
-    let open = |error| Failure::file("open", path, error);
-    let file = File::open(path).map_err(open)?;
-    let found = file.metadata().map_err(open)?;
-    if found.is_dir() {
-        return Err(Failure::file("read", path, "it is a directory"));
-    }
-    let mut bytes = Vec::new();
-    let mut some = file.take(limit as u64 + 1);
-    match some.read_to_end(&mut bytes) {
-        Ok(read) => Ok(Whole {
-            bytes,
-            length: found.len().max(read as u64),
-        }),
-        Err(error) => Err(Failure::file("read", path, error)),
-    }
+    slow::at(Work::Reading);
+    Seen::open(path)?.read(limit)
 }
 
 /// Fails if a new file may not be written under a name: one that exists is replaced only where that is allowed, and only
@@ -58,66 +152,32 @@ pub fn is_same(one: &Path, other: &Path) -> bool {
     }
 }
 
-/// Writes a file, with the access rights of another if one is named: first under a name of its own in the same directory,
+/// Writes a file, with the access rights of another if one is given: first under a name of its own in the same directory,
 /// synced, then renamed, then the directory synced.
 pub fn write_new(
     path: &Path,
     bytes: &[u8],
-    like: Option<&Path>,
+    like: Option<&Seen>,
     replace: bool,
 ) -> Result<(), Failure> {
+    slow::at(Work::Writing);
     check_new(path, replace)?;
-    let like = match like {
-        Some(like) => Some(fs::metadata(like).map_err(|error| Failure::file("read", like, error))?),
-        None => None,
-    };
-    let fresh = Fresh::write(path, bytes, like.as_ref())?;
-    // It may have come into being meanwhile.
+    sweep(path, None);
+    let _signals = Signals::held();
+    let fresh = Fresh::write(path, bytes, like.is_some(), |file| match like {
+        Some(like) => give_rights(file, &like.file),
+        None => Ok(()),
+    })?;
+    unless_stopped()?;
+    // It may have come into being, or become something else, meanwhile.
     check_new(path, replace)?;
-    fresh.take_the_place_of(path)?;
-    sync_renamed(path)
-}
-
-/// Puts new bytes in the place of a file's old ones, which stay in a backup beside it. Gives the backup's path.
-pub fn replace(path: &Path, old: &[u8], new: &[u8]) -> Result<PathBuf, Failure> {
-    let cannot = |error| Failure::file("replace", path, error);
-    // A link is followed, so that the file it leads to is replaced and not the link.
-    let path = &fs::canonicalize(path).map_err(cannot)?;
-    let like = fs::metadata(path).map_err(cannot)?;
-    if !like.is_file() {
-        return Err(Failure::file("replace", path, "it is no plain file"));
+    let mark = Mark::new(format!("{} is written", path.display()));
+    match replace {
+        true => drop(fresh.take_the_place_of(path)?),
+        false => drop(fresh.take_the_name(path)?.stay()),
     }
-    let fresh = Fresh::write(path, new, Some(&like))?;
-    fresh.keep_owner(&like)?;
-    let backup = back_up(path, old, &like)?;
-    sync_directory(path)?;
-    fresh.take_the_place_of(path)?;
-    // From here on the backup is all that is left of the old bytes.
-    let backup = backup.stay();
-    sync_renamed(path)?;
-    Ok(backup)
-}
-
-/// A backup under the first free name: a second name for the old file, which loses its first one when it is replaced, or
-/// a copy where the file system has no second names.
-fn back_up(path: &Path, old: &[u8], like: &Metadata) -> Result<Fresh, Failure> {
-    for number in 1..=MOST_NAMES {
-        let ending = match number {
-            1 => ".bak".to_string(),
-            number => format!(".bak{number}"),
-        };
-        let name = with_ending(path, &ending);
-        match fs::hard_link(path, &name) {
-            Ok(()) => return Ok(Fresh { path: name }),
-            Err(error) if error.kind() == ErrorKind::AlreadyExists => continue,
-            Err(_) => match Fresh::create(name.clone(), old, Some(like)) {
-                Ok(copy) => return Ok(copy),
-                Err(error) if error.kind() == ErrorKind::AlreadyExists => continue,
-                Err(error) => return Err(Failure::file("write", &name, error)),
-            },
-        }
-    }
-    Err(Failure::file("back up", path, "there are too many backups"))
+    mark.set();
+    sync_directory(path).map_err(|failure| lasting(&failure, path, None))
 }
 
 /// The path with something added to its last name.
@@ -128,7 +188,7 @@ pub fn with_ending(path: &Path, ending: &str) -> PathBuf {
 }
 
 /// Makes the names in a file's directory last. Some file systems cannot; nothing more can be done there.
-fn sync_directory(path: &Path) -> Result<(), Failure> {
+pub fn sync_directory(path: &Path) -> Result<(), Failure> {
     let directory = directory_of(path);
     let synced = File::open(directory).and_then(|directory| directory.sync_all());
     match synced {
@@ -138,103 +198,63 @@ fn sync_directory(path: &Path) -> Result<(), Failure> {
     }
 }
 
-/// The same after a rename, when the new file stands already.
-fn sync_renamed(path: &Path) -> Result<(), Failure> {
-    sync_directory(path).map_err(|failure| match failure {
-        Failure::File(text) => Failure::File(format!(
-            "{text}; {} is written, but its name may not outlast a power failure",
-            path.display()
-        )),
-        other => other,
-    })
+/// A directory that could not be synced after a file took its place there.
+pub fn lasting(failure: &Failure, path: &Path, backup: Option<&Path>) -> Failure {
+    let backup = match backup {
+        Some(backup) => format!(", the old bytes are in {}", backup.display()),
+        None => String::new(),
+    };
+    Failure::Done(format!(
+        "{}; {} is written{backup}, but its name may not outlast a power failure",
+        failure.text(),
+        path.display()
+    ))
 }
 
-fn directory_of(path: &Path) -> &Path {
+pub fn directory_of(path: &Path) -> &Path {
     match path.parent() {
         Some(parent) if parent != Path::new("") => parent,
         _ => Path::new("."),
     }
 }
 
-/// A file that goes away again unless it takes its place.
-struct Fresh {
-    path: PathBuf,
-}
-
-impl Fresh {
-    /// The bytes under a name of their own beside the path.
-    fn write(beside: &Path, bytes: &[u8], like: Option<&Metadata>) -> Result<Fresh, Failure> {
-        let Some(name) = beside.file_name() else {
-            return Err(Failure::file("write", beside, "it has no file name"));
-        };
-        // A run that was broken off may have left a name behind, and its process number may come again.
-        for number in 0..MOST_NAMES {
-            let mut own = OsString::from(".");
-            own.push(name);
-            own.push(format!(".{}-{number}.tmp", std::process::id()));
-            match Fresh::create(directory_of(beside).join(own), bytes, like) {
-                Ok(fresh) => return Ok(fresh),
-                Err(error) if error.kind() == ErrorKind::AlreadyExists => continue,
-                Err(error) => return Err(Failure::file("write", beside, error)),
-            }
-        }
-        let why = "there are too many temporary files beside it";
-        Err(Failure::file("write", beside, why))
-    }
-
-    /// A new file, synced, with the access rights of another if one is named.
-    fn create(path: PathBuf, bytes: &[u8], like: Option<&Metadata>) -> std::io::Result<Fresh> {
-        let mut options = OpenOptions::new();
-        options.write(true).create_new(true);
-        #[cfg(unix)]
-        if like.is_some() {
-            // Nobody else reads it before it has its own rights.
-            std::os::unix::fs::OpenOptionsExt::mode(&mut options, 0o600);
-        }
-        let mut file = options.open(&path)?;
-        let fresh = Fresh { path };
-        file.write_all(bytes)?;
-        if let Some(like) = like {
-            file.set_permissions(like.permissions())?;
-        }
-        file.sync_all()?;
-        Ok(fresh)
-    }
-
-    /// Gives the file the owner and group of another, where they differ.
-    fn keep_owner(&self, like: &Metadata) -> Result<(), Failure> {
-        #[cfg(unix)]
-        {
-            use std::os::unix::fs::{chown, MetadataExt};
-            let cannot = |error| Failure::file("keep the owner in", &self.path, error);
-            let own = fs::metadata(&self.path).map_err(cannot)?;
-            if (own.uid(), own.gid()) != (like.uid(), like.gid()) {
-                chown(&self.path, Some(like.uid()), Some(like.gid())).map_err(cannot)?;
-                // A change of owner may take rights away.
-                fs::set_permissions(&self.path, like.permissions()).map_err(cannot)?;
-            }
-        }
-        Ok(())
-    }
-
-    /// Renames it.
-    fn take_the_place_of(self, path: &Path) -> Result<(), Failure> {
-        fs::rename(&self.path, path).map_err(|error| Failure::file("write", path, error))?;
-        self.stay();
-        Ok(())
-    }
-
-    /// Lets the file be, and gives its path.
-    fn stay(mut self) -> PathBuf {
-        std::mem::take(&mut self.path)
+/// Whether a path leads to an open file.
+pub fn is_one_file(path: &Path, file: &File) -> bool {
+    match (fs::metadata(path), file.metadata()) {
+        (Ok(one), Ok(other)) => Stamp::of(&one).is_same_file(&Stamp::of(&other)),
+        _ => false,
     }
 }
 
-impl Drop for Fresh {
-    fn drop(&mut self) {
-        if self.path != Path::new("") {
-            // There is a failure to tell already.
-            let _ = fs::remove_file(&self.path);
+#[cfg(test)]
+mod tests {
+    use super::*;
+
+    /// What another process does to a file after it was read is noticed.
+    #[test]
+    fn changes_are_noticed() {
+        let path = std::env::temp_dir().join(format!("lumbraquay-seen-{}", std::process::id()));
+        let other = with_ending(&path, "-other");
+        let changes: [fn(&Path, &Path); 4] = [
+            |path, _| fs::write(path, b"longer than before").unwrap(),
+            |path, _| fs::write(path, b"other").unwrap(),
+            |path, _| fs::remove_file(path).unwrap(),
+            |path, other| fs::rename(other, path).unwrap(),
+        ];
+        for change in changes {
+            fs::write(&path, b"bytes").unwrap();
+            fs::write(&other, b"bytes").unwrap();
+            let whole = read(&path, 10).ok().unwrap();
+            assert_eq!(
+                (whole.bytes.as_slice(), whole.length),
+                (b"bytes".as_slice(), 5)
+            );
+            assert!(whole.seen.must_be_as_read().is_ok());
+            // Times of writing may be coarse.
+            std::thread::sleep(std::time::Duration::from_millis(20));
+            change(&path, &other);
+            assert!(whole.seen.must_be_as_read().is_err());
         }
+        fs::remove_file(&path).unwrap();
     }
 }

@@ -1,12 +1,13 @@
 //! The two files that commands read, and the options that say how.
 
-use std::path::{Path, PathBuf};
+use std::path::PathBuf;
 
-use library::{Verdict, LOG_LIMIT_BYTES, PAGE_BYTES, PAGE_LIMIT};
+use library::{Verdict, LOG_HEAD_BYTES, LOG_LIMIT_BYTES, PAGE_BYTES, PAGE_LIMIT};
 
 use crate::args::Parsed;
 use crate::failure::Failure;
-use crate::files;
+use crate::files::{self, Seen, Whole};
+use crate::held::Held;
 use crate::json::Json;
 
 /// A page file and its magic.
@@ -17,23 +18,43 @@ pub struct Pages {
     pub length: u64,
     pub magic: u64,
     magic_given: bool,
+    pub seen: Seen,
 }
 
 impl Pages {
     /// Reads the page file that is the first thing a command takes.
     pub fn read(parsed: &Parsed) -> Result<Pages, Failure> {
+        Pages::of(
+            parsed,
+            files::read(parsed.path(0), PAGE_BYTES * PAGE_LIMIT)?,
+        )
+    }
+
+    /// The same of a page file that is held to be replaced.
+    pub fn read_held(parsed: &Parsed, held: &Held) -> Result<Pages, Failure> {
+        Pages::of(parsed, held.read(PAGE_BYTES * PAGE_LIMIT)?)
+    }
+
+    fn of(parsed: &Parsed, whole: Whole) -> Result<Pages, Failure> {
         let path = parsed.path(0);
-        let files::Whole { bytes, length } = files::read(path, PAGE_LIMIT * PAGE_BYTES)?;
+        let Whole {
+            bytes,
+            length,
+            seen,
+        } = whole;
         if bytes.is_empty() {
             return Err(Failure::file("use", path, "it is empty and holds no page"));
         }
         let given = parsed.chosen_number("--magic")?;
+        let magic = given.unwrap_or_else(|| magic_of_page_0(&bytes));
+        parsed.magic.set(Some(magic));
         Ok(Pages {
             path: path.to_path_buf(),
-            magic: given.unwrap_or_else(|| magic_of_page_0(&bytes)),
+            magic,
             magic_given: given.is_some(),
             bytes,
             length,
+            seen,
         })
     }
 
@@ -88,26 +109,51 @@ pub struct Log {
     pub bytes: Vec<u8>,
     /// The file's length, of which no more bytes are read than the library would take and one.
     pub length: u64,
+    /// Up to where it is taken, if not to its end.
+    pub until: Option<u64>,
+    pub seen: Seen,
 }
 
 impl Log {
-    pub fn read(path: &Path) -> Result<Log, Failure> {
-        let files::Whole { bytes, length } = files::read(path, LOG_LIMIT_BYTES)?;
+    /// Reads the log file that a command takes at an index, up to --log-until if that is given.
+    pub fn read(parsed: &Parsed, index: usize) -> Result<Log, Failure> {
+        let path = parsed.path(index);
+        let Whole {
+            mut bytes,
+            length,
+            seen,
+        } = files::read(path, LOG_LIMIT_BYTES)?;
+        let until = parsed.chosen_number("--log-until")?;
+        if let Some(until) = until {
+            if until < LOG_HEAD_BYTES as u64 || until > length {
+                return Err(parsed.wrong(format!(
+                    "--log-until is {until}, not from 32, where entries start, to {length}, where the log ends"
+                )));
+            }
+            bytes.truncate(usize::try_from(until).unwrap_or(usize::MAX));
+        }
         Ok(Log {
             path: path.to_path_buf(),
             bytes,
             length,
+            until,
+            seen,
         })
     }
 
     pub fn line(&self) -> String {
-        format!("{}: {} bytes", self.path.display(), self.bytes.len())
+        let until = match self.until {
+            Some(until) => format!(", taken up to {until}"),
+            None => String::new(),
+        };
+        format!("{}: {} bytes{until}", self.path.display(), self.length)
     }
 
     pub fn fields(&self) -> Vec<(&'static str, Json)> {
         vec![
             ("log_file", Json::text(self.path.display())),
-            ("log_bytes", self.bytes.len().into()),
+            ("log_bytes", self.length.into()),
+            ("log_until", self.until.map_or(Json::Null, Json::from)),
         ]
     }
 }
@@ -117,6 +163,7 @@ impl Log {
 pub struct Read<'a> {
     pub pages: Option<&'a Pages>,
     pub log: Option<&'a Log>,
+    pub floor: u64,
 }
 
 impl<'a> Read<'a> {
@@ -124,6 +171,7 @@ impl<'a> Read<'a> {
         Read {
             pages: Some(pages),
             log: None,
+            floor: 0,
         }
     }
 
@@ -131,24 +179,35 @@ impl<'a> Read<'a> {
         Read {
             pages: None,
             log: Some(log),
+            floor: 0,
         }
     }
 
-    pub fn both(pages: &'a Pages, log: &'a Log) -> Read<'a> {
+    pub fn both(pages: &'a Pages, log: &'a Log, floor: u64) -> Read<'a> {
         Read {
             pages: Some(pages),
             log: Some(log),
+            floor,
         }
     }
 }
 
 /// The fields that every JSON object starts with.
-pub fn verdict_fields(parsed: &Parsed, verdict: Verdict) -> Vec<(&'static str, Json)> {
+pub fn head_fields(parsed: &Parsed, result: &str, verdict: Verdict) -> Vec<(&'static str, Json)> {
     let name = library::refusal::refusal(verdict.number).map_or("DONE", |refusal| refusal.name);
     vec![
         ("command", parsed.name().into()),
+        ("result", result.into()),
         ("number", verdict.number.into()),
         ("name", name.into()),
         ("place", verdict.place.into()),
     ]
+}
+
+impl Read<'_> {
+    pub fn fields(&self) -> Vec<(&'static str, Json)> {
+        let mut fields = self.pages.map_or(Vec::new(), Pages::fields);
+        fields.extend(self.log.map_or(Vec::new(), Log::fields));
+        fields
+    }
 }

@@ -1,6 +1,12 @@
-//! JSON values as text.
+//! JSON values as text. A number of an object that is above 2^53, which some readers round, has a twin: after "lsn" comes
+//! "lsn_text", the same number as a text.
 
 use std::fmt::{self, Display, Formatter};
+
+use crate::plain::is_plain;
+
+/// From here on a number has a twin.
+const MOST_EXACT: u64 = 1 << 53;
 
 #[derive(Clone, Debug)]
 pub enum Json {
@@ -60,6 +66,9 @@ impl Display for Json {
                 f.write_str("{")?;
                 for (at, (name, value)) in fields.iter().enumerate() {
                     write!(f, "{}\"{name}\":{value}", if at == 0 { "" } else { "," })?;
+                    if let Json::Number(number @ MOST_EXACT..) = value {
+                        write!(f, ",\"{name}_text\":\"{number}\"")?;
+                    }
                 }
                 f.write_str("}")
             }
@@ -73,10 +82,12 @@ fn write_text(f: &mut Formatter, text: &str) -> fmt::Result {
         match letter {
             '"' => f.write_str("\\\"")?,
             '\\' => f.write_str("\\\\")?,
-            letter if (letter as u32) < 0x20 || letter as u32 == 0x7F => {
-                write!(f, "\\u{:04x}", letter as u32)?
+            letter if is_plain(letter) => write!(f, "{letter}")?,
+            letter => {
+                for unit in letter.encode_utf16(&mut [0; 2]) {
+                    write!(f, "\\u{unit:04x}")?;
+                }
             }
-            letter => write!(f, "{letter}")?,
         }
     }
     f.write_str("\"")

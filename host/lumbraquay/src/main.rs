@@ -2,43 +2,125 @@
 
 mod advice;
 mod args;
+mod changes;
 mod commands;
+mod done;
 mod failure;
 mod files;
+mod found;
+mod fresh;
+mod held;
 mod input;
 mod json;
+mod memory;
+mod mended;
 mod output;
+mod plain;
 mod portal;
+mod report;
 mod show;
+mod slow;
+mod stats;
+mod sys;
+mod tuple;
+mod walk;
 
 use std::ffi::OsString;
 use std::process::ExitCode;
+use std::thread;
 
 use args::{Command, Parsed};
-use failure::Failure;
+use failure::{tell, Failure};
+use json::Json;
 use output::Output;
 
 const VERSION: &str = env!("CARGO_PKG_VERSION");
 
+/// The library works in under 1 MiB of stack; this leaves as much again, and more, for the command.
+const STACK_BYTES: usize = 4 << 20;
+
+/// Runs the command on a thread whose stack is known to suffice.
 fn main() -> ExitCode {
+    memory::prepare();
+    let thread = thread::Builder::new().stack_size(STACK_BYTES);
+    let status = match thread.spawn(work) {
+        Ok(thread) => thread.join().unwrap_or_else(|_| {
+            tell(format_args!("internal error; {}", done::so_far()));
+            if done::marked().is_some() {
+                4
+            } else {
+                2
+            }
+        }),
+        Err(error) => {
+            tell(format_args!(
+                "no room for a stack of {STACK_BYTES} bytes: {error}"
+            ));
+            2
+        }
+    };
+    ExitCode::from(status)
+}
+
+/// Does what the words of the command line say, and gives the exit status.
+fn work() -> u8 {
     let words: Vec<OsString> = std::env::args_os().skip(1).collect();
     let mut output = Output::standard();
-    let done = run(&words, &mut output);
+    let mut told = Told::of(&words);
+    let done = run(&words, &mut output, &mut told);
     // What was printed before a failure goes out before it is told.
     let done = match output.flush() {
         Err(failure) if done.is_ok() => Err(failure),
         _ => done,
     };
-    match done {
-        Ok(()) => ExitCode::SUCCESS,
-        Err(failure) => {
-            failure.tell();
-            ExitCode::from(failure.status())
+    let Err(failure) = done.map_err(Failure::after_changes) else {
+        return 0;
+    };
+    if !told.as_json(&failure, &mut output) {
+        failure.tell();
+    }
+    if let Failure::Stopped(number) = failure {
+        sys::end_by(number);
+    }
+    failure.status()
+}
+
+/// What is known of a run, for the words of a failure.
+struct Told {
+    command: Json,
+    json: bool,
+    fields: Vec<(&'static str, Json)>,
+}
+
+impl Told {
+    fn of(words: &[OsString]) -> Told {
+        let mut options = words.iter().take_while(|word| *word != "--");
+        let json = options.any(|word| word == "--json");
+        memory::tell_as_json(json);
+        Told {
+            command: Json::Null,
+            json,
+            fields: Vec::new(),
         }
+    }
+
+    /// Prints wrong use or trouble with a file as a JSON object, if that is wanted and can be done.
+    fn as_json(&self, failure: &Failure, output: &mut Output) -> bool {
+        if !self.json || !matches!(failure, Failure::Usage(_) | Failure::File(_)) {
+            return false;
+        }
+        let mut fields = vec![
+            ("command", self.command.clone()),
+            ("result", "error".into()),
+            ("message", Json::text(failure.text().trim_end())),
+        ];
+        fields.extend(self.fields.iter().cloned());
+        let printed = output.line(Json::Object(fields));
+        printed.and_then(|()| output.flush()).is_ok()
     }
 }
 
-fn run(words: &[OsString], output: &mut Output) -> Result<(), Failure> {
+fn run(words: &[OsString], output: &mut Output, told: &mut Told) -> Result<(), Failure> {
     let Some((first, rest)) = words.split_first() else {
         return Err(Failure::Usage(format!(
             "no command is given\n\n{}",
@@ -49,7 +131,25 @@ fn run(words: &[OsString], output: &mut Output) -> Result<(), Failure> {
         Some("--help" | "-h") => output.text(&overview()),
         Some("--version" | "-V") => output.line(format_args!("lumbraquay {VERSION}")),
         Some("help") => help(rest, output),
-        name => run_command(find(name, first)?, rest, output),
+        name => {
+            let command = find(name, first)?;
+            told.command = command.name.into();
+            let Some(parsed) = Parsed::read(command, rest)? else {
+                return output.text(&command.help());
+            };
+            told.json = parsed.flag("--json");
+            if parsed.flag("--quiet") {
+                if told.json {
+                    return Err(parsed.wrong("--quiet does not go with --json".to_string()));
+                }
+                failure::be_quiet();
+                *output = Output::quiet();
+            }
+            slow::watch();
+            let done = (command.run)(&parsed, output);
+            told.fields = parsed.fields();
+            done
+        }
     }
 }
 
@@ -71,17 +171,6 @@ fn help(words: &[OsString], output: &mut Output) -> Result<(), Failure> {
     }
 }
 
-fn run_command(
-    command: &'static Command,
-    words: &[OsString],
-    output: &mut Output,
-) -> Result<(), Failure> {
-    match Parsed::read(command, words)? {
-        None => output.text(&command.help()),
-        Some(parsed) => (command.run)(&parsed, output),
-    }
-}
-
 fn overview() -> String {
     let mut text = String::from(
         "lumbraquay: recovers heap pages by their write-ahead log, by code that is proved to follow its rules\n\n\
@@ -91,5 +180,5 @@ fn overview() -> String {
         text += &format!("  {:<9} {}\n", command.name, command.about);
     }
     text + "\n`lumbraquay COMMAND --help` tells more. Exit status: 0 done, 3 refused (the answer says why), 2 wrong use \
-            or trouble\nwith a file. A refusal never changes a file.\n"
+            or trouble\nwith a file, 4 done, but the report could not be written. 2 and 3 leave every file as it was.\n"
 }

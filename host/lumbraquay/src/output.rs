@@ -1,27 +1,51 @@
-//! Standard output, with every failed write told.
+//! Standard output, with every failed write told, and no letter that a terminal would take for an order.
 
 use std::fmt::Display;
-use std::io::{BufWriter, Stdout, Write};
+use std::io::{BufWriter, IsTerminal, Write};
 
 use crate::failure::Failure;
+use crate::plain::plain;
 
 pub struct Output {
-    to: BufWriter<Stdout>,
+    to: Box<dyn Write>,
 }
 
 impl Output {
     pub fn standard() -> Output {
         Output {
-            to: BufWriter::new(std::io::stdout()),
+            to: Box::new(BufWriter::new(std::io::stdout())),
         }
     }
 
+    /// Standard error takes what else is to be read where standard output takes bytes.
+    pub fn error() -> Output {
+        Output {
+            to: Box::new(BufWriter::new(std::io::stderr())),
+        }
+    }
+
+    /// Nothing is printed.
+    pub fn quiet() -> Output {
+        Output {
+            to: Box::new(std::io::sink()),
+        }
+    }
+
+    pub fn is_terminal() -> bool {
+        std::io::stdout().is_terminal()
+    }
+
+    /// Bytes as they are.
+    pub fn bytes(&mut self, bytes: &[u8]) -> Result<(), Failure> {
+        self.to.write_all(bytes).map_err(Failure::Output)
+    }
+
     pub fn text(&mut self, text: &str) -> Result<(), Failure> {
-        self.to.write_all(text.as_bytes()).map_err(Failure::Output)
+        self.bytes(plain(text).as_bytes())
     }
 
     pub fn line(&mut self, line: impl Display) -> Result<(), Failure> {
-        writeln!(self.to, "{line}").map_err(Failure::Output)
+        self.text(&format!("{line}\n"))
     }
 
     pub fn flush(&mut self) -> Result<(), Failure> {

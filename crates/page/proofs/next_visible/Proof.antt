@@ -1,8 +1,8 @@
 use mathlib.Core.Path.{sym, ap, _∙_}
 use borrow.Author.Needs.{needs}
 use Rattle.page.specs.declared.NextRow.the-variants.{Refused}
-use Rattle.page.proofs.Listing.{listing-refused, listing-taken}
-use Rattle.page.proofs.Verdicts.{number-of, accepted-good}
+use Rattle.page.proofs.Listing.{listing-refused, listing-taken, listable}
+use Rattle.page.proofs.Verdicts.{number-of}
 use Rattle.page.proofs.next_visible.Statement.{statement}
 use Rattle.page.proofs.next_visible.Tie as tie
 
@@ -11,16 +11,16 @@ returns c =
     let e = c .before .before .verify .ensures in
     ap Refused e ∙ listing-refused _ _ _ _ (λ q. c .if1 .taken (ap number-of e ∙ q))
 
-row-from-requires : tie.Need-row-from-requires
-row-from-requires c κs =
+next-row-requires : tie.Need-next-row-requires
+next-row-requires c κs =
     let a = c .before .before .before .before .args in
     let e = c .before .before .verify .ensures in
-    λ i l t. accepted-good (a .magic) (a .pages .now) (sym (ap number-of e) ∙ c .if1 .left) i l .dataGood t
+    listable (a .magic) (a .pages .now) (sym (ap number-of e) ∙ c .if1 .left)
 
 returns-2 : tie.Need-returns-2
 returns-2 c =
     let i = c .before in
-    c .row-from .ensures ∙ listing-taken _ _ _ _ (sym (ap number-of (i .before .before .verify .ensures)) ∙ i .if1 .left)
+    c .next-row .ensures ∙ listing-taken _ _ _ _ (sym (ap number-of (i .before .before .verify .ensures)) ∙ i .if1 .left)
 
 pub next-visible-spec : {M : Type 1} → statement M
-next-visible-spec = tie.close (tie.spec (λ c κs. search needs) returns row-from-requires returns-2)
+next-visible-spec = tie.close (tie.spec (λ c κs. search needs) returns next-row-requires returns-2)

@@ -7,10 +7,11 @@ mod workload;
 use std::hint::black_box;
 use std::time::Instant;
 
+use bench::has_instruction;
 use library::{Answer, RECORD_NUMBERS};
 use oracle::Record;
 
-use baseline::{copy_and_sum, has_instruction, sqlite, Sqlite};
+use baseline::{copy_and_sum, sqlite, Sqlite};
 use workload::{Input, Size, Workload, MAGIC, SIZES, WORKLOADS};
 
 const RUNS: usize = 5;

@@ -3,6 +3,7 @@
 
 mod header;
 mod limits;
+mod maps;
 mod seeds;
 mod stack;
 

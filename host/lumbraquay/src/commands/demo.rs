@@ -11,7 +11,7 @@ use super::recover;
 use crate::args::{Choice, Command, Parsed, JSON};
 use crate::failure::Failure;
 use crate::files;
-use crate::input::verdict_fields;
+use crate::input::head_fields;
 use crate::json::Json;
 use crate::output::Output;
 use crate::portal::{outage, Found, Order, Outage};
@@ -64,7 +64,8 @@ fn run(parsed: &Parsed, output: &mut Output) -> Result<(), Failure> {
         .map(|told| told.order.number.to_string())
         .collect();
     if parsed.flag("--json") {
-        let mut fields = verdict_fields(parsed, report.answer.verdict());
+        let result = if wrong.is_empty() { "done" } else { "differs" };
+        let mut fields = head_fields(parsed, result, report.mended.answer.verdict());
         fields.push(("directory", Json::text(directory.display())));
         fields.push(("recovery", Json::Object(report.fields())));
         fields.push((
@@ -174,7 +175,8 @@ fn print(
 ) -> Result<(), Failure> {
     output.line("The power failed at a portal for crane parts. Its disk held some pages too old, some too new, and a torn log:")?;
     output.line(format_args!("  {}\n", directory.display()))?;
-    report.tell(output, true)?;
+    report.mended.tell(output, true)?;
+    output.line(report.written())?;
     output.line("\nWhat became of each order:")?;
     for Told {
         order,

@@ -3,7 +3,7 @@
 use crate::advice::unless_refused;
 use crate::args::{Command, Parsed, JSON, MAGIC};
 use crate::failure::Failure;
-use crate::input::{verdict_fields, Pages, Read};
+use crate::input::{head_fields, Pages, Read};
 use crate::json::Json;
 use crate::output::Output;
 use crate::show;
@@ -26,7 +26,7 @@ fn run(parsed: &Parsed, output: &mut Output) -> Result<(), Failure> {
     let is_free = |page: &u64| map[*page as usize / 8] >> (page % 8) & 1 == 1;
     let free: Vec<u64> = (0..pages.count() as u64).filter(is_free).collect();
     if parsed.flag("--json") {
-        let mut fields = verdict_fields(parsed, answer.verdict());
+        let mut fields = head_fields(parsed, "done", answer.verdict());
         fields.extend(pages.fields());
         fields.push(("free", answer.free.into()));
         fields.push((

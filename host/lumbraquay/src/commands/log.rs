@@ -6,10 +6,13 @@ use library::{Step, Verdict, LOG_HEAD_BYTES, STEP_DAMAGED, STEP_END, STEP_ENTRY,
 use crate::advice::{refusal_fields, text, unless_refused};
 use crate::args::{Choice, Command, Parsed, JSON};
 use crate::failure::Failure;
-use crate::input::{verdict_fields, Log, Read};
+use crate::input::{head_fields, Log, Read};
 use crate::json::Json;
 use crate::output::Output;
 use crate::show;
+use crate::stats::Stats;
+use crate::tuple::{self, Tuple};
+use crate::walk;
 
 pub const COMMAND: Command = Command {
     name: "log",
@@ -19,12 +22,24 @@ pub const COMMAND: Command = Command {
         Choice::flag("--backward", "from the end found by walking back to the first entry"),
         Choice::value("--from", "PLACE", "start at this byte instead"),
         Choice::value("--limit", "N", "list no more entries than this"),
+        Choice::value("--transaction", "N", "only entries of this transaction"),
+        Choice::value("--page", "N", "only changes to this page"),
+        Choice::value("--slot", "N", "only changes to this slot"),
+        Choice::value("--type", "TYPE", "only entries of this type, by name or number"),
+        Choice::value("--lsn-from", "LSN", "only entries of this LSN and above"),
+        Choice::value("--lsn-to", "LSN", "only entries of this LSN and below"),
+        Choice::flag("--payload", "show the rows before and after each change"),
+        Choice::flag("--stats", "count and sum the entries instead of listing them"),
         JSON,
     ],
     more: "A torn tail ends a log and is no fault. Damage is refusal 4, told after the entries before it. Backward, PLACE should be\n\
-           the end of an entry: from any other byte a row that contains the bytes of an entry may pass for one.",
+           the end of an entry: from any other byte a row that contains the bytes of an entry may pass for one.\n\
+           Of several options that say which entries, an entry has to meet all.",
     run,
 };
+
+/// How many letters of a payload stand in a line of text.
+const SHOWN: usize = 200;
 
 /// What the listing starts from.
 struct Start {
@@ -33,47 +48,116 @@ struct Start {
     walked: bool,
     backward: bool,
     limit: u64,
+    filter: Filter,
+    payload: bool,
+}
+
+/// Which entries are listed.
+struct Filter {
+    transaction: Option<u64>,
+    page: Option<u64>,
+    slot: Option<u64>,
+    entry_type: Option<&'static str>,
+    lsn_from: Option<u64>,
+    lsn_to: Option<u64>,
+}
+
+impl Filter {
+    fn of(parsed: &Parsed) -> Result<Filter, Failure> {
+        Ok(Filter {
+            transaction: parsed.chosen_number("--transaction")?,
+            page: parsed.chosen_number("--page")?,
+            slot: parsed.chosen_number("--slot")?,
+            entry_type: parsed.chosen_name("--type", show::ENTRY_TYPES)?,
+            lsn_from: parsed.chosen_number("--lsn-from")?,
+            lsn_to: parsed.chosen_number("--lsn-to")?,
+        })
+    }
+
+    fn is_met(&self, log: &Log, step: &Step) -> bool {
+        let target = walk::target(&log.bytes, step);
+        let same = |asked: Option<u64>, has: Option<u64>| asked.is_none_or(|it| Some(it) == has);
+        same(self.transaction, Some(step.transaction))
+            && same(self.page, target.map(|(page, _)| page))
+            && same(self.slot, target.map(|(_, slot)| slot.into()))
+            && self
+                .entry_type
+                .is_none_or(|name| name == show::entry_type(step.entry_type))
+            && self.lsn_from.is_none_or(|lsn| lsn <= step.lsn)
+            && self.lsn_to.is_none_or(|lsn| step.lsn <= lsn)
+    }
+}
+
+/// How far a listing went.
+struct Walked {
+    stopped: u64,
+    entries: u64,
+    listed: u64,
 }
 
 fn run(parsed: &Parsed, output: &mut Output) -> Result<(), Failure> {
     let backward = parsed.flag("--backward");
     let from = parsed.chosen_number("--from")?;
     let limit = parsed.chosen_number("--limit")?.unwrap_or(u64::MAX);
-    let log = Log::read(parsed.path(0))?;
+    let log = Log::read(parsed, 0)?;
     let opened = library::log_open(&log.bytes, backward);
     unless_refused(parsed, output, opened, Read::log(&log))?;
+    if let Some(inside) = from.and_then(|from| around(&log, from)) {
+        return Err(parsed.wrong(format!(
+            "--from is inside the entry at offset {}, which ends at {}",
+            inside.offset, inside.next
+        )));
+    }
     let start = Start {
         place: from.unwrap_or(opened.place),
         walked: from.is_none(),
         backward,
         limit,
+        filter: Filter::of(parsed)?,
+        payload: parsed.flag("--payload"),
     };
-    match parsed.flag("--json") {
-        true => list_json(parsed, output, &log, &start),
-        false => list_text(output, &log, &start),
+    match (parsed.flag("--stats"), parsed.flag("--json")) {
+        (true, _) => sum(parsed, output, &log, &start),
+        (false, true) => list_json(parsed, output, &log, &start),
+        (false, false) => list_text(output, &log, &start),
     }
 }
 
-/// Calls for every entry; gives the place where the listing stopped.
+/// The entry that a place is inside of.
+fn around(log: &Log, place: u64) -> Option<Step> {
+    walk::entries(&log.bytes)
+        .take_while(|step| step.offset < place)
+        .find(|step| step.next > place)
+}
+
+/// Calls for every entry that is to be listed.
 fn each_entry(
     log: &Log,
     start: &Start,
     mut call: impl FnMut(&Step) -> Result<(), Failure>,
-) -> Result<u64, Failure> {
+) -> Result<Walked, Failure> {
     let step = match start.backward {
         true => library::log_backward,
         false => library::log_forward,
     };
-    let mut place = start.place;
-    for _ in 0..start.limit {
-        let found = step(&log.bytes, place);
+    let mut walked = Walked {
+        stopped: start.place,
+        entries: 0,
+        listed: 0,
+    };
+    while walked.listed < start.limit {
+        let found = step(&log.bytes, walked.stopped);
         if found.kind != STEP_ENTRY {
             break;
         }
-        call(&found)?;
-        place = found.next;
+        walked.entries += 1;
+        walked.stopped = found.next;
+        if start.filter.is_met(log, &found) {
+            walked.listed += 1;
+            call(&found)?;
+        }
     }
-    Ok(place)
+    Ok(walked)
 }
 
 /// What stands where a listing ends: forward where it stopped, backward from the end found by walking at that end. Backward
@@ -118,14 +202,14 @@ fn damage(end: &Step) -> Option<Verdict> {
 fn list_text(output: &mut Output, log: &Log, start: &Start) -> Result<(), Failure> {
     output.line(log.line())?;
     output.line("    offset  length       LSN  transaction  type           table  change")?;
-    let mut entries = 0;
-    let stopped = each_entry(log, start, |step| {
-        entries += 1;
-        let change = match show::target(&log.bytes, step) {
+    let walked = each_entry(log, start, |step| {
+        let (before, after) = walk::tuples(&log.bytes, step);
+        let target = walk::target(&log.bytes, step);
+        let change = match target {
             Some((page, slot)) => format!(
                 "page {page} slot {slot}, {} bytes before, {} after",
-                show::tuple_bytes(step, step.old_len),
-                show::tuple_bytes(step, step.new_len)
+                before.len(),
+                after.len()
             ),
             None => String::new(),
         };
@@ -138,15 +222,30 @@ fn list_text(output: &mut Output, log: &Log, start: &Start) -> Result<(), Failur
             show::entry_type(step.entry_type),
             step.table
         );
-        output.line(line.trim_end())
+        output.line(line.trim_end())?;
+        for (name, tuple) in [("before:", before), ("after: ", after)] {
+            if let Some(tuple) = Tuple::of(tuple).filter(|_| start.payload && target.is_some()) {
+                output.line(format_args!("{:>20} {}", name, tuple.words(SHOWN)))?;
+            }
+        }
+        Ok(())
     })?;
-    let (end, kind) = end_of(log, start, stopped);
+    end_text(output, log, start, &walked)
+}
+
+/// The last line, and the refusal of damage.
+fn end_text(output: &mut Output, log: &Log, start: &Start, walked: &Walked) -> Result<(), Failure> {
+    let (end, kind) = end_of(log, start, walked.stopped);
     let place = end.next;
     let rest = match end.kind {
         STEP_TORN => format!(", {} bytes", log.bytes.len() as u64 - place),
         _ => String::new(),
     };
-    let entries = show::count(entries, "entry", "entries");
+    let entries = show::count(walked.entries, "entry", "entries");
+    let entries = match walked.listed == walked.entries {
+        true => entries,
+        false => format!("{} of {entries}", walked.listed),
+    };
     output.line(format_args!("{entries}; {kind} at {place}{rest}"))?;
     match damage(&end) {
         None => Ok(()),
@@ -163,17 +262,35 @@ fn list_json(
 ) -> Result<(), Failure> {
     output.text("{\"entries\":[")?;
     let mut first = true;
-    let stopped = each_entry(log, start, |step| {
+    let walked = each_entry(log, start, |step| {
         output.text(if std::mem::take(&mut first) {
             "\n"
         } else {
             ",\n"
         })?;
-        output.text(&Json::Object(entry_fields(log, step)).to_string())
+        output.text(&Json::Object(entry_fields(log, start, step)).to_string())
     })?;
-    let (end, kind) = end_of(log, start, stopped);
+    output.text("],\n")?;
+    end_json(parsed, output, log, start, &walked, Vec::new())
+}
+
+/// The fields of the end, after what was written of the object already; its brace is left out then.
+fn end_json(
+    parsed: &Parsed,
+    output: &mut Output,
+    log: &Log,
+    start: &Start,
+    walked: &Walked,
+    more: Vec<(&'static str, Json)>,
+) -> Result<(), Failure> {
+    let (end, kind) = end_of(log, start, walked.stopped);
     let verdict = damage(&end).unwrap_or_default();
-    let mut fields = verdict_fields(parsed, verdict);
+    let result = if verdict.number == 0 {
+        "done"
+    } else {
+        "refused"
+    };
+    let mut fields = head_fields(parsed, result, verdict);
     if verdict.number != 0 {
         fields.extend(refusal_fields(verdict, Read::log(log)));
     }
@@ -181,23 +298,27 @@ fn list_json(
     fields.extend([
         ("backward", start.backward.into()),
         ("from", start.place.into()),
-        ("stopped", stopped.into()),
+        ("stopped", walked.stopped.into()),
+        ("walked", walked.entries.into()),
+        ("listed", walked.listed.into()),
         ("end", kind.into()),
     ]);
-    let rest = Json::Object(fields).to_string();
-    output.line(format_args!("],\n{}", &rest[1..]))?;
+    let is_begun = more.is_empty();
+    fields.extend(more);
+    let text = Json::Object(fields).to_string();
+    output.line(&text[usize::from(is_begun)..])?;
     match verdict.number {
         0 => Ok(()),
         _ => Err(Failure::Refused(String::new())),
     }
 }
 
-fn entry_fields(log: &Log, step: &Step) -> Vec<(&'static str, Json)> {
-    let (page, slot) = match show::target(&log.bytes, step) {
+fn entry_fields(log: &Log, start: &Start, step: &Step) -> Vec<(&'static str, Json)> {
+    let (page, slot) = match walk::target(&log.bytes, step) {
         Some((page, slot)) => (page.into(), u64::from(slot).into()),
         None => (Json::Null, Json::Null),
     };
-    vec![
+    let mut fields = vec![
         ("offset", step.offset.into()),
         ("length", step.length.into()),
         ("lsn", step.lsn.into()),
@@ -210,5 +331,27 @@ fn entry_fields(log: &Log, step: &Step) -> Vec<(&'static str, Json)> {
         ("key_bytes", step.key_len.into()),
         ("old_bytes", step.old_len.into()),
         ("new_bytes", step.new_len.into()),
-    ]
+    ];
+    if start.payload {
+        let (before, after) = walk::tuples(&log.bytes, step);
+        fields.push(("before", tuple::fields(Tuple::of(before))));
+        fields.push(("after", tuple::fields(Tuple::of(after))));
+    }
+    fields
+}
+
+/// Counts and sums instead of the entries.
+fn sum(parsed: &Parsed, output: &mut Output, log: &Log, start: &Start) -> Result<(), Failure> {
+    let mut stats = Stats::default();
+    let walked = each_entry(log, start, |step| {
+        stats.add(step, walk::target(&log.bytes, step));
+        Ok(())
+    })?;
+    if parsed.flag("--json") {
+        let stats = vec![("stats", stats.fields())];
+        return end_json(parsed, output, log, start, &walked, stats);
+    }
+    output.line(log.line())?;
+    stats.tell(output)?;
+    end_text(output, log, start, &walked)
 }

@@ -3,25 +3,55 @@
 mod demo;
 mod freemap;
 mod log;
+mod pages;
 mod recover;
 mod replay;
+mod report;
 mod row;
 mod rows;
 mod verify;
 
-use crate::args::Command;
+use library::refusal::NO_SUCH_PAGE;
+use library::Verdict;
+
+use crate::advice::unless_refused;
+use crate::args::{Command, Parsed};
+use crate::failure::Failure;
+use crate::input::{Pages, Read};
+use crate::output::Output;
 
 pub const ALL: &[Command] = &[
     demo::COMMAND,
     recover::COMMAND,
     verify::COMMAND,
     log::COMMAND,
+    pages::COMMAND,
     rows::COMMAND,
     row::COMMAND,
     freemap::COMMAND,
+    report::COMMAND,
     replay::COMMAND,
 ];
 
 /// What PAGES and LOG mean wherever a command takes them.
-const PAGES: (&str, &str) = ("PAGES", "the page file");
-const LOG: (&str, &str) = ("LOG", "the log file");
+const PAGES: (&str, &str) = ("PAGES", "the page file; - for standard input");
+const LOG: (&str, &str) = ("LOG", "the log file; - for standard input");
+
+/// Refuses a page that is asked for and not there.
+fn must_have_page(
+    parsed: &Parsed,
+    output: &mut Output,
+    pages: &Pages,
+    asked: Option<u64>,
+) -> Result<(), Failure> {
+    let number = match asked {
+        Some(page) if page >= pages.count() as u64 => NO_SUCH_PAGE,
+        _ => 0,
+    };
+    unless_refused(
+        parsed,
+        output,
+        Verdict { number, place: 0 },
+        Read::pages(pages),
+    )
+}

@@ -2,14 +2,15 @@
 
 use std::path::{Path, PathBuf};
 
-use library::{Answer, Record, LOG_HEAD_BYTES, RECORD_NUMBERS, SHORTEST_ENTRY_BYTES};
-
 use crate::advice::unless_refused;
-use crate::args::{Choice, Command, Parsed, FLOOR, JSON, MAGIC};
+use crate::args::{Choice, Command, Parsed, FLOOR, JSON, LOG_UNTIL, MAGIC, QUIET};
+use crate::changes::Change;
 use crate::failure::Failure;
-use crate::files;
-use crate::input::{verdict_fields, Log, Pages, Read};
+use crate::files::{self, is_standard, STANDARD};
+use crate::held::Held;
+use crate::input::{head_fields, Log, Pages};
 use crate::json::Json;
+use crate::mended::Mended;
 use crate::output::Output;
 use crate::show;
 
@@ -18,25 +19,31 @@ pub const COMMAND: Command = Command {
     about: "recovers the pages by the log and writes them to a new file",
     takes: &[super::PAGES, super::LOG],
     options: &[
-        Choice::value("--out", "FILE", "the new file; PAGES.recovered where not given"),
+        Choice::value("--out", "FILE", "the new file; PAGES.recovered where not given; - for standard output, and the report goes to standard error"),
         Choice::flag("--force", "replace the new file if it exists"),
-        Choice::flag("--in-place", "replace PAGES itself and keep it as PAGES.bak (.bak2, .bak3 and so on where that exists)"),
+        Choice::flag("--in-place", "replace PAGES itself and keep a copy as PAGES.bak (.bak2, .bak3 and so on where that exists)"),
         Choice::flag("--dry-run", "write nothing"),
         MAGIC,
         FLOOR,
+        LOG_UNTIL,
         Choice::value("--records", "N", "refuse a log of more transactions than this"),
         Choice::flag("--transactions", "list what became of each transaction"),
+        Choice::flag("--changes", "list every slot that recovery changes, before and after; with --dry-run, would change"),
+        QUIET,
         JSON,
     ],
     more: "The new file is written under another name in the same directory, synced and renamed, so it is never seen half-written.\n\
-           A run that was broken off may be repeated. The log file is never changed.",
+           A run that was broken off may be repeated. The log file is never changed.\n\
+           --in-place takes the lock of PAGES (flock) and stops, with all as it was, if another process holds it, has PAGES open for\n\
+           writing, or changes PAGES or LOG before the end. Owner, rights, extended attributes and access lists are kept.",
     run,
 };
 
 /// Where the recovered pages go.
 enum Target {
     New(PathBuf),
-    InPlace,
+    InPlace(Held),
+    Standard,
     Nowhere,
 }
 
@@ -44,71 +51,79 @@ enum Target {
 enum Written {
     New(PathBuf),
     Replaced { backup: PathBuf },
+    Standard,
     Unchanged,
     Nothing,
 }
 
 fn run(parsed: &Parsed, output: &mut Output) -> Result<(), Failure> {
     let report = recover(parsed, output)?;
+    let Report { mended, .. } = &report;
+    let changes = match parsed.flag("--changes") {
+        true => mended.changes(),
+        false => Vec::new(),
+    };
     if parsed.flag("--json") {
-        let mut fields = verdict_fields(parsed, report.answer.verdict());
+        let mut fields = head_fields(parsed, report.result(), mended.answer.verdict());
         fields.extend(report.fields());
+        if parsed.flag("--changes") {
+            let changes = changes.iter().map(Change::fields).collect();
+            fields.push(("changed_slots", Json::List(changes)));
+        }
         return output.line(Json::Object(fields));
     }
-    report.tell(output, parsed.flag("--transactions"))
+    mended.tell(output, parsed.flag("--transactions"))?;
+    if parsed.flag("--changes") {
+        let count = show::count(changes.len() as u64, "slot", "slots");
+        output.line(format_args!("  {count} changed"))?;
+    }
+    for change in changes {
+        change.tell(output)?;
+    }
+    output.line(report.written())
 }
 
 /// Does what the words of a command line ask for. Only a refusal is printed here, if as JSON.
 pub fn recover(parsed: &Parsed, output: &mut Output) -> Result<Report, Failure> {
-    let floor = parsed.chosen_number("--floor")?.unwrap_or(0);
-    let most_records = parsed.chosen_number("--records")?;
     if parsed.flag("--in-place") && (parsed.flag("--out") || parsed.flag("--force")) {
         let what = "--in-place goes with neither --out nor --force";
         return Err(parsed.wrong(what.to_string()));
     }
-    let old = Pages::read(parsed)?;
-    let log = Log::read(parsed.path(1))?;
-    let target = target(parsed)?;
-
-    let mut new = old.bytes.clone();
-    let mut table = vec![0; RECORD_NUMBERS * records(&log, most_records)];
-    let answer = library::recover(old.magic, floor, &mut new, &log.bytes, &mut table);
-    unless_refused(parsed, output, answer.verdict(), Read::both(&old, &log))?;
-    let transactions = answer.committed + answer.rolled_back + answer.unended;
-    let records: Vec<Record> = library::records(&table)
-        .take(transactions as usize)
-        .collect();
-
-    let written = write(parsed, target, &old, &new)?;
-    Ok(Report {
-        pages: old,
-        log,
-        floor,
-        answer,
-        records,
-        written,
-    })
-}
-
-/// As many records as the log can have Begins, or fewer if so chosen.
-fn records(log: &Log, most: Option<u64>) -> usize {
-    let entries = log.bytes.len().saturating_sub(LOG_HEAD_BYTES) / SHORTEST_ENTRY_BYTES;
-    match most.map(usize::try_from) {
-        Some(Ok(most)) => most.min(entries),
-        _ => entries,
+    if is_standard(parsed.path(0)) && parsed.flag("--in-place") {
+        let what = "--in-place needs a file, and PAGES is standard input";
+        return Err(parsed.wrong(what.to_string()));
     }
+    let held = match parsed.flag("--in-place") && !parsed.flag("--dry-run") {
+        true => Some(Held::take(parsed.path(0))?),
+        false => None,
+    };
+    let pages = match &held {
+        Some(held) => Pages::read_held(parsed, held)?,
+        None => Pages::read(parsed)?,
+    };
+    let log = Log::read(parsed, 1)?;
+    let target = target(parsed, held)?;
+    let mended = Mended::of(parsed, pages, log)?;
+    unless_refused(parsed, output, mended.answer.verdict(), mended.read())?;
+    let written = write(parsed, output, target, &mended)?;
+    Ok(Report { mended, written })
 }
 
 /// Where the pages are to go; whatever forbids that is told before any work.
-fn target(parsed: &Parsed) -> Result<Target, Failure> {
+fn target(parsed: &Parsed, held: Option<Held>) -> Result<Target, Failure> {
     if parsed.flag("--dry-run") {
         return Ok(Target::Nowhere);
     }
-    if parsed.flag("--in-place") {
-        return Ok(Target::InPlace);
+    if let Some(held) = held {
+        return Ok(Target::InPlace(held));
     }
     let out = match parsed.chosen_path("--out") {
+        Some(out) if is_standard(out) => return standard(),
         Some(out) => out.to_path_buf(),
+        None if is_standard(parsed.path(0)) => {
+            let what = "--out is missing: PAGES is standard input, and gives the new file no name";
+            return Err(parsed.wrong(what.to_string()));
+        }
         None => files::with_ending(parsed.path(0), ".recovered"),
     };
     for input in [parsed.path(0), parsed.path(1)] {
@@ -124,87 +139,76 @@ fn target(parsed: &Parsed) -> Result<Target, Failure> {
     Ok(Target::New(out))
 }
 
-fn write(parsed: &Parsed, target: Target, old: &Pages, new: &[u8]) -> Result<Written, Failure> {
+/// Pages are no sight for a terminal.
+fn standard() -> Result<Target, Failure> {
+    match Output::is_terminal() {
+        true => Err(Failure::File(
+            "cannot write pages to standard output: it is a terminal".to_string(),
+        )),
+        false => Ok(Target::Standard),
+    }
+}
+
+fn write(
+    parsed: &Parsed,
+    output: &mut Output,
+    target: Target,
+    mended: &Mended,
+) -> Result<Written, Failure> {
+    let Mended {
+        pages, log, new, ..
+    } = mended;
     match target {
         Target::Nowhere => Ok(Written::Nothing),
-        Target::InPlace if old.bytes == new => Ok(Written::Unchanged),
-        Target::InPlace => {
-            let backup = files::replace(&old.path, &old.bytes, new)?;
+        Target::InPlace(_) if pages.bytes == *new => Ok(Written::Unchanged),
+        Target::InPlace(held) => {
+            let backup = held.replace(&log.seen, &pages.bytes, new)?;
             Ok(Written::Replaced { backup })
         }
+        Target::Standard => {
+            let mut standard = Output::standard();
+            standard.bytes(new)?;
+            standard.flush()?;
+            if !parsed.flag("--quiet") {
+                *output = Output::error();
+            }
+            Ok(Written::Standard)
+        }
         Target::New(out) => {
-            files::write_new(&out, new, Some(&old.path), parsed.flag("--force"))?;
+            pages.seen.must_be_as_read()?;
+            log.seen.must_be_as_read()?;
+            files::write_new(&out, new, Some(&pages.seen), parsed.flag("--force"))?;
             Ok(Written::New(out))
         }
     }
 }
 
-/// What was recovered from what, and what became of it.
+/// What was recovered, and what became of it.
 pub struct Report {
-    pages: Pages,
-    log: Log,
-    floor: u64,
-    pub answer: Answer,
-    records: Vec<Record>,
+    pub mended: Mended,
     written: Written,
 }
 
 impl Report {
-    fn torn_bytes(&self) -> u64 {
-        self.log.bytes.len() as u64 - self.answer.tail_offset
-    }
-
-    pub fn tell(&self, output: &mut Output, transactions: bool) -> Result<(), Failure> {
-        let answer = &self.answer;
-        output.line(self.pages.line())?;
-        output.line(format_args!("{}, floor {}", self.log.line(), self.floor))?;
-        let tail = match self.torn_bytes() {
-            0 => "nothing torn".to_string(),
-            torn => format!("torn tail of {torn} bytes at offset {}", answer.tail_offset),
-        };
-        output.line(format_args!(
-            "  log:          last LSN {}, {tail}",
-            answer.last_lsn
-        ))?;
-        output.line(format_args!(
-            "  transactions: {} committed, {} rolled back, {} unended",
-            answer.committed, answer.rolled_back, answer.unended
-        ))?;
-        output.line(format_args!(
-            "  changes:      {} by committed, {} by rolled back, {} by unended, {} by transaction 0",
-            answer.changes_committed,
-            answer.changes_rolled_back,
-            answer.changes_unended,
-            answer.changes_zero
-        ))?;
-        output.line(format_args!(
-            "  pages:        {} of {} rewritten",
-            answer.pages_rewritten,
-            self.pages.count()
-        ))?;
-        if transactions {
-            output.line("  transaction  first LSN  changes  outcome")?;
-            for record in &self.records {
-                output.line(format_args!(
-                    "{:>13}  {:>9}  {:>7}  {}",
-                    record.number,
-                    record.first_lsn,
-                    record.changes,
-                    show::outcome(record.outcome)
-                ))?;
-            }
-        }
-        output.line(self.written())
-    }
-
-    fn written(&self) -> String {
-        let pages = self.pages.path.display();
+    /// What became of it, in a word.
+    fn result(&self) -> &'static str {
         match &self.written {
+            Written::New(_) | Written::Replaced { .. } | Written::Standard => "done",
+            Written::Unchanged => "unchanged",
+            Written::Nothing => "dry-run",
+        }
+    }
+
+    pub fn written(&self) -> String {
+        let pages = self.mended.pages.path.display();
+        match &self.written {
+            Written::Standard => "recovered: written to standard output".to_string(),
             Written::New(path) => format!("recovered: written to {}", path.display()),
             Written::Replaced { backup } => {
                 format!(
-                    "recovered: {pages} replaced, the old file is {}",
-                    backup.display()
+                    "recovered: {pages} replaced; {} has the {} bytes that were read from it",
+                    backup.display(),
+                    self.mended.pages.length
                 )
             }
             Written::Unchanged => {
@@ -216,44 +220,16 @@ impl Report {
 
     /// The fields after number, name and place.
     pub fn fields(&self) -> Vec<(&'static str, Json)> {
-        let answer = &self.answer;
         let path = |path: &Path| Json::text(path.display());
         let (output, backup) = match &self.written {
+            Written::Standard => (STANDARD.into(), Json::Null),
             Written::New(out) => (path(out), Json::Null),
-            Written::Replaced { backup } => (path(&self.pages.path), path(backup)),
+            Written::Replaced { backup } => (path(&self.mended.pages.path), path(backup)),
             Written::Unchanged | Written::Nothing => (Json::Null, Json::Null),
         };
-        let mut fields = self.pages.fields();
-        fields.extend(self.log.fields());
-        fields.extend([
-            ("floor", self.floor.into()),
-            ("last_lsn", answer.last_lsn.into()),
-            ("tail_offset", answer.tail_offset.into()),
-            ("torn_bytes", self.torn_bytes().into()),
-            ("committed", answer.committed.into()),
-            ("rolled_back", answer.rolled_back.into()),
-            ("unended", answer.unended.into()),
-            ("changes_committed", answer.changes_committed.into()),
-            ("changes_rolled_back", answer.changes_rolled_back.into()),
-            ("changes_unended", answer.changes_unended.into()),
-            ("changes_of_transaction_0", answer.changes_zero.into()),
-            ("pages_rewritten", answer.pages_rewritten.into()),
-            ("written_to", output),
-            ("backup", backup),
-            (
-                "transactions",
-                Json::List(self.records.iter().map(record_fields).collect()),
-            ),
-        ]);
+        let mut fields = self.mended.fields();
+        fields.extend([("written_to", output), ("backup", backup)]);
+        fields.push(("transactions", self.mended.transactions()));
         fields
     }
-}
-
-fn record_fields(record: &Record) -> Json {
-    Json::Object(vec![
-        ("transaction", record.number.into()),
-        ("first_lsn", record.first_lsn.into()),
-        ("outcome", show::outcome(record.outcome).into()),
-        ("changes", record.changes.into()),
-    ])
 }

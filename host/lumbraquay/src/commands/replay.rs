@@ -54,7 +54,8 @@ fn run(parsed: &Parsed, output: &mut Output) -> Result<(), Failure> {
         .filter(|told| parsed.flag("--all") || is_telling(told))
         .collect();
     if parsed.flag("--json") {
-        let mut fields = case_fields(&case);
+        let mut fields = vec![("command", "replay".into()), result(&seen)];
+        fields.extend(case_fields(&case));
         fields.extend(sum_fields(&seen));
         fields.push((
             "answers",
@@ -83,7 +84,11 @@ fn is_telling(told: &Told) -> bool {
 fn many(parsed: &Parsed, output: &mut Output, seed: u64, count: u64) -> Result<(), Failure> {
     let seen = sweep(seed..seed.saturating_add(count));
     if parsed.flag("--json") {
-        let mut fields = vec![("command", "replay".into()), ("seed", seed.into())];
+        let mut fields = vec![
+            ("command", "replay".into()),
+            result(&seen),
+            ("seed", seed.into()),
+        ];
         fields.extend(sum_fields(&seen));
         output.line(Json::Object(fields))?;
         return agreed(&seen);
@@ -140,7 +145,6 @@ fn write(case: &Case, directory: &Path) -> Result<(), Failure> {
 
 fn case_fields(case: &Case) -> Vec<(&'static str, Json)> {
     vec![
-        ("command", "replay".into()),
         ("seed", case.seed.into()),
         ("kind", case.kind.into()),
         ("pages", (case.pages.len() / PAGE_BYTES).into()),
@@ -149,6 +153,15 @@ fn case_fields(case: &Case) -> Vec<(&'static str, Json)> {
         ("floor", case.floor.into()),
         ("records", case.records.into()),
     ]
+}
+
+fn result(seen: &Seen) -> (&'static str, Json) {
+    let result = if seen.differences.is_empty() {
+        "done"
+    } else {
+        "differs"
+    };
+    ("result", result.into())
 }
 
 fn sum_fields(seen: &Seen) -> Vec<(&'static str, Json)> {

@@ -3,9 +3,9 @@
 use library::{Row, FROM_LOG};
 
 use crate::advice::unless_refused;
-use crate::args::{Command, Parsed, FLOOR, JSON, MAGIC};
+use crate::args::{Command, Parsed, FLOOR, JSON, LOG_UNTIL, MAGIC};
 use crate::failure::Failure;
-use crate::input::{verdict_fields, Log, Pages, Read};
+use crate::input::{head_fields, Log, Pages, Read};
 use crate::json::Json;
 use crate::output::Output;
 use crate::show;
@@ -19,7 +19,7 @@ pub const COMMAND: Command = Command {
         ("PAGE", "the number of the row's page"),
         ("SLOT", "the number of its slot"),
     ],
-    options: &[MAGIC, FLOOR, JSON],
+    options: &[MAGIC, FLOOR, LOG_UNTIL, JSON],
     more: "",
     run,
 };
@@ -29,14 +29,19 @@ fn run(parsed: &Parsed, output: &mut Output) -> Result<(), Failure> {
     let slot = parsed.number(3, u16::MAX.into())?;
     let floor = parsed.chosen_number("--floor")?.unwrap_or(0);
     let pages = Pages::read(parsed)?;
-    let log = Log::read(parsed.path(1))?;
+    let log = Log::read(parsed, 1)?;
     let (lent, lent_log) = (&pages.bytes, &log.bytes);
     let row = library::read_row(pages.magic, floor, lent, lent_log, page, slot as u16);
-    unless_refused(parsed, output, row.verdict(), Read::both(&pages, &log))?;
+    unless_refused(
+        parsed,
+        output,
+        row.verdict(),
+        Read::both(&pages, &log, floor),
+    )?;
 
     let payload = row.payload(lent, lent_log);
     if parsed.flag("--json") {
-        let mut fields = verdict_fields(parsed, row.verdict());
+        let mut fields = head_fields(parsed, "done", row.verdict());
         fields.extend(pages.fields());
         fields.extend(log.fields());
         fields.extend([

@@ -8,7 +8,7 @@ use library::PAGE_BYTES;
 use crate::advice::unless_refused;
 use crate::args::{Choice, Command, Parsed, JSON, MAGIC};
 use crate::failure::Failure;
-use crate::input::{verdict_fields, Pages, Read};
+use crate::input::{head_fields, Pages, Read};
 use crate::json::Json;
 use crate::output::Output;
 use crate::show;
@@ -83,12 +83,13 @@ fn run(parsed: &Parsed, output: &mut Output) -> Result<(), Failure> {
     let pages = Pages::read(parsed)?;
     let verdict = library::verify(pages.magic, &pages.bytes);
     unless_refused(parsed, output, verdict, Read::pages(&pages))?;
+    super::must_have_page(parsed, output, &pages, only)?;
 
     let rows = visible(&pages.bytes)
         .filter(|row| only.is_none_or(|page| page == row.page as u64))
         .take(limit);
     if parsed.flag("--json") {
-        let mut fields = verdict_fields(parsed, verdict);
+        let mut fields = head_fields(parsed, "done", verdict);
         fields.extend(pages.fields());
         fields.push((
             "rows",

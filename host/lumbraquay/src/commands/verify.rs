@@ -3,9 +3,9 @@
 use library::PAGE_BYTES;
 
 use crate::advice::unless_refused;
-use crate::args::{Command, Parsed, JSON, MAGIC};
+use crate::args::{Command, Parsed, JSON, MAGIC, QUIET};
 use crate::failure::Failure;
-use crate::input::{verdict_fields, Pages, Read};
+use crate::input::{head_fields, Pages, Read};
 use crate::json::Json;
 use crate::output::Output;
 use crate::show;
@@ -14,7 +14,7 @@ pub const COMMAND: Command = Command {
     name: "verify",
     about: "says whether every page is good",
     takes: &[super::PAGES],
-    options: &[MAGIC, JSON],
+    options: &[MAGIC, QUIET, JSON],
     more: "A page is good if its magic, type, id and checksum are right and, on a data page, every slot is.",
     run,
 };
@@ -26,7 +26,7 @@ fn run(parsed: &Parsed, output: &mut Output) -> Result<(), Failure> {
 
     let types = types(&pages);
     if parsed.flag("--json") {
-        let mut fields = verdict_fields(parsed, verdict);
+        let mut fields = head_fields(parsed, "done", verdict);
         fields.extend(pages.fields());
         let types = types.iter().map(|&(name, count)| (name, count.into()));
         fields.push(("types", Json::Object(types.collect())));

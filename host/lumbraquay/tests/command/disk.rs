@@ -23,10 +23,9 @@ fn a_file_that_cannot_be_written_whole() {
     let before = sandbox.contents();
     let limited = |words: &str| sandbox.shell(&format!("{TRAPPED} {LIMITED} \"$LQ\" {words}"));
     for words in WRITING {
-        for json in ["", " --json"] {
-            limited(&format!("{words}{json}")).fails(&["cannot write ", "File too large"]);
-            assert!(sandbox.contents() == before, "{words}");
-        }
+        limited(words).fails(&["cannot write ", "File too large"]);
+        limited(&format!("{words} --json")).fails_as_json("File too large");
+        assert!(sandbox.contents() == before, "{words}");
     }
     limited("demo --dir new").fails(&["cannot write new/outage.pages: File too large"]);
     limited("replay 7 --dir .").fails(&["cannot write ./7.pages: File too large"]);
@@ -55,7 +54,7 @@ fn a_full_disk() {
     assert!(sandbox.contents() == before);
 }
 
-/// A run that is killed while it writes leaves a file under a name of its own, and the next run is not hindered.
+/// A run that is killed while it writes leaves a file under a name of its own, which the next run removes.
 #[test]
 fn a_run_that_is_killed() {
     for words in WRITING {
@@ -64,24 +63,30 @@ fn a_run_that_is_killed() {
         for turn in 1..=2 {
             let killed = sandbox.shell(&format!("{LIMITED} exec \"$LQ\" {words}"));
             assert_eq!(killed.status, None, "{killed:#?}");
+            assert_eq!(killed.err.contains("lumbraquay: removed "), turn == 2);
             let names = sandbox.names();
             let (own, seen): (Vec<String>, Vec<String>) =
                 names.into_iter().partition(|name| name.starts_with('.'));
             assert_eq!(seen, OLD, "{words}");
-            assert_eq!(own.len(), turn);
+            assert_eq!(own.len(), 1);
             assert!(own.iter().all(|name| name.ends_with(".tmp")));
         }
         assert!(OLD.map(|name| sandbox.read(name)) == old);
-        sandbox.say(words).done();
+        let done = sandbox.say(words).ends(0);
+        assert!(done
+            .err
+            .contains("which a run that was killed left behind\n"));
+        assert!(sandbox.names().iter().all(|name| !name.starts_with('.')));
     }
 }
 
-/// Its process number may come again, as in a container that is started anew.
+/// Its process number may come again, as in a container that is started anew; and its files may be locked still.
 #[test]
-fn names_that_a_killed_run_left_are_passed_by() {
+fn names_that_are_taken_are_passed_by() {
     let sandbox = Sandbox::with_outage();
     let line = "for n in 0 1; do echo old > .outage.pages.recovered.$$-$n.tmp; done; \
-                exec \"$LQ\" recover outage.pages outage.log";
+                exec 8< .outage.pages.recovered.$$-0.tmp 9< .outage.pages.recovered.$$-1.tmp; \
+                flock 8; flock 9; exec \"$LQ\" recover outage.pages outage.log";
     sandbox.shell(line).done();
     let names = sandbox.names();
     assert_eq!(names.len(), 5, "{names:?}");
@@ -112,4 +117,112 @@ fn standard_output_that_is_full_or_closed() {
     assert_eq!(done.err, "");
     let status = sandbox.read("status");
     assert!(status == b"2\n" || status == b"0\n", "{status:?}");
+}
+
+/// The uses that leave files, and what of them stands on standard error if the report finds no room.
+const LEAVING: [(&str, &[&str]); 5] = [
+    (
+        "recover outage.pages outage.log --out new",
+        &["new is written"],
+    ),
+    (
+        "recover outage.pages outage.log --out new --json",
+        &["new is written"],
+    ),
+    (
+        "recover outage.pages outage.log --in-place",
+        &[
+            "outage.pages is replaced by the recovered pages; ",
+            "outage.pages.bak has the 65536 bytes that were read from it",
+        ],
+    ),
+    ("demo --dir new", &["new/outage.pages.recovered is written"]),
+    ("replay 7 --dir .", &["./7.log is written"]),
+];
+
+#[test]
+fn done_but_the_report_finds_no_room() {
+    let endings = [
+        ("> /dev/full", "No space left on device"),
+        ("| true", "Broken pipe"),
+    ];
+    for (words, texts) in LEAVING {
+        for (ending, error) in endings {
+            let sandbox = Sandbox::with_outage();
+            let line = format!("{{ sleep 0.05; \"$LQ\" {words}; echo $? > status; }} {ending}");
+            let done = sandbox.shell(&line);
+            assert_eq!(sandbox.read("status"), b"4\n", "{words} {done:#?}");
+            let head = format!("lumbraquay: cannot write to standard output: {error}");
+            assert!(done.err.starts_with(&head), "{done:#?}");
+            for text in texts {
+                assert!(done.err.contains(text), "no '{text}' in {done:#?}");
+            }
+        }
+    }
+    // Nothing was done, so that is all that is to be told.
+    let sandbox = Sandbox::with_outage();
+    for words in ["--dry-run", "--in-place"] {
+        let line = format!("\"$LQ\" recover outage.pages outage.log {words} > /dev/full");
+        sandbox
+            .say("recover outage.pages outage.log --in-place")
+            .done();
+        sandbox
+            .shell(&line)
+            .fails(&["cannot write to standard output: No space left on device"]);
+    }
+}
+
+/// A small stack for the process, and little memory: done, or a clear error.
+#[test]
+fn little_stack_and_little_memory() {
+    let sandbox = Sandbox::with_outage();
+    for kib in [100, 300, 1_000] {
+        let line =
+            format!("ulimit -s {kib}; \"$LQ\" recover outage.pages outage.log --out new --force");
+        sandbox.shell(&line).done();
+    }
+    // A large page file, of free pages beside the outage's.
+    let mut pages = sandbox.read("outage.pages");
+    for id in 4..1_024 {
+        pages.extend(generate::plain_page(
+            u64::from_le_bytes(*b"CRANES01"),
+            generate::FREE,
+            id,
+            12,
+        ));
+    }
+    sandbox.write("outage.pages", &pages);
+    let before = sandbox.contents();
+    let (mut done, mut failed) = (0, 0);
+    for mib in (6..=90).step_by(5) {
+        for words in ["--dry-run", "--dry-run --json", "--in-place"] {
+            let limit = format!("ulimit -v {}", mib * 1_024);
+            if sandbox.shell(&format!("{limit}; \"$LQ\" --version")).status != Some(0) {
+                continue;
+            }
+            let line = format!("{limit}; \"$LQ\" recover outage.pages outage.log {words}");
+            let ended = sandbox.shell(&line);
+            match ended.status {
+                Some(0) => done += 1,
+                Some(2) => {
+                    failed += 1;
+                    let told = match words.contains("--json") && !ended.out.is_empty() {
+                        true => ended.json().text("message").to_string(),
+                        false => ended.err.clone(),
+                    };
+                    assert!(
+                        told.contains("out of memory") || told.contains("no room for a stack"),
+                        "{mib} {ended:#?}"
+                    );
+                    assert!(sandbox.contents() == before);
+                }
+                _ => panic!("{mib} {ended:#?}"),
+            }
+            if done > 0 && words == "--in-place" {
+                assert!(failed > 3);
+                return;
+            }
+        }
+    }
+    panic!("never enough memory");
 }

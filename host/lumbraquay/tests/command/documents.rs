@@ -89,7 +89,7 @@ fn run(name: &str, document: &str) -> Vec<String> {
 fn the_transcript_is_what_is_printed() {
     let lines = run("the transcript", TRANSCRIPT);
     for command in [
-        "demo", "recover", "verify", "log", "rows", "row", "freemap", "replay",
+        "demo", "recover", "verify", "log", "pages", "rows", "row", "freemap", "report", "replay",
     ] {
         let start = format!("lumbraquay {command} ");
         assert!(
@@ -102,8 +102,7 @@ fn the_transcript_is_what_is_printed() {
 #[test]
 fn documents_show_what_is_printed() {
     for name in ["README.md", "docs/API.md"] {
-        // A document may not be there, and need not show the command.
-        let document = std::fs::read_to_string(repository().join(name)).unwrap_or_default();
+        let document = std::fs::read_to_string(repository().join(name)).expect(name);
         let lines = run(name, &document);
         assert_eq!(lines.len(), shown(&document).len());
     }

@@ -31,7 +31,8 @@ fn all_fail(sandbox: &Sandbox, name: &str, text: &str) {
     for words in OF_PAGES.iter().chain(&OF_LOG) {
         let words = words.replace(['P', 'L'], name);
         sandbox.say(&words).fails(&[text]);
-        sandbox.say(&format!("{words} --json")).fails(&[text]);
+        let told = sandbox.say(&format!("{words} --json")).fails_as_json(text);
+        assert_eq!(told.text("command"), words.split(' ').next().unwrap());
     }
     assert!(sandbox.contents() == before);
 }

@@ -63,7 +63,7 @@ fn rows_are_the_librarys() {
 fn rows_may_be_few() {
     let sandbox = Sandbox::with_outage();
     sandbox.say("rows outage.pages").done().says(&[
-        "     1      1      61         8         0  order 1002: 40 hoist ropes for Quay 2\n",
+        "     1      1      61         8         0  \"order 1002: 40 hoist ropes for Quay 2\"\n",
         "6 visible rows\n",
     ]);
     let page = sandbox.say("rows outage.pages --page 2").done();
@@ -74,9 +74,8 @@ fn rows_may_be_few() {
         .done()
         .says(&["0 visible rows\n"]);
     sandbox
-        .say("rows outage.pages --page 99")
-        .done()
-        .says(&["0 visible rows\n"]);
+        .say("rows outage.pages --page 4")
+        .refuses(&["refused: 15 NO_SUCH_PAGE\n", "pages 0 to 3"]);
     sandbox
         .say("rows outage.pages --limit 1")
         .done()
@@ -170,11 +169,11 @@ fn row_in_words() {
     };
     row("1 0").says(&[
         "page 1 slot 0: live, xmin 3, xmax 0\n",
-        "payload of 39 bytes, at offset 32729 of the pages: order 1001: 6 ramshorn hooks for Quay 1\n",
+        "payload of 39 bytes, at offset 32729 of the pages: \"order 1001: 6 ramshorn hooks for Quay 1\"\n",
     ]);
     row("1 2").says(&[
         "page 1 slot 2: deleted, xmin 4, xmax 10\n",
-        "of the log: order 1003",
+        "of the log: \"order 1003",
     ]);
     row("2 2").says(&["page 2 slot 2: no row\n"]);
     row("3 0").says(&["page 3 slot 0: no row\n"]);

@@ -121,10 +121,15 @@ fn places_and_limits() {
         .say("log outage.log --backward --limit 1")
         .done()
         .says(&["      1029 ", "\n1 entry; torn tail at 1072"]);
+    for words in ["--from 119", "--from 119 --backward", "--from 311"] {
+        sandbox
+            .say(&format!("log outage.log {words}"))
+            .fails(&["--from is inside the entry at offset 118, which ends at 312"]);
+    }
     sandbox
-        .say("log outage.log --backward --from 119")
+        .say("log outage.log --backward --from 1080")
         .done()
-        .says(&["\n0 entries; no entry ends at 119\n"]);
+        .says(&["\n0 entries; no entry ends at 1080\n"]);
     sandbox
         .say("log outage.log --from 31")
         .done()

@@ -129,8 +129,8 @@ fn in_place_keeps_backups() {
     let (expected, _) = by_oracle(&sandbox);
     let words = "recover outage.pages outage.log --in-place";
     sandbox.say(words).done().says(&[
-        "outage.pages replaced, the old file is",
-        "outage.pages.bak\n",
+        "outage.pages replaced; ",
+        "outage.pages.bak has the 65536 bytes that were read from it\n",
     ]);
     assert_eq!(
         sandbox.names(),
@@ -149,7 +149,7 @@ fn in_place_keeps_backups() {
         sandbox.write("outage.pages", &old);
         let done = sandbox.say(words).done();
         let backup = format!("outage.pages.bak{count}");
-        assert!(done.out.ends_with(&format!("{backup}\n")), "{done:#?}");
+        assert!(done.out.contains(&format!("{backup} has ")), "{done:#?}");
         assert!(sandbox.read(&backup) == old && sandbox.read("outage.pages") == expected);
     }
     assert_eq!(sandbox.names().len(), 5);
@@ -296,9 +296,10 @@ fn floor_and_magic_are_options() {
     sandbox.write("log", &log);
     let words = "recover pages log --dry-run";
     for more in ["", "--floor 8", "--floor=0x8"] {
-        sandbox
-            .say(&format!("{words} {more}"))
-            .refuses(&["refused: 12 PAGE_LSN at page 0 of pages, offset 0", "LSN 9"]);
+        sandbox.say(&format!("{words} {more}")).refuses(&[
+            "refused: 12 PAGE_LSN at page 0 of pages, offset 0",
+            "the page's LSN is 9",
+        ]);
     }
     sandbox
         .say(&format!("{words} --floor 9"))

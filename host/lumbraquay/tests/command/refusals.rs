@@ -1,6 +1,8 @@
 //! Refusals by the command: number, place, meaning and advice, exit status 3, and every file as it was.
 
+use generate::{live_tuple, log_header, plain_page, DataPage, Entry, Slots};
 use generate::{mutated_by, mutations, Case, Mutation, Rng};
+use generate::{BEGIN, CHECKPOINT, COMMIT, FREE};
 use library::refusal::{refusal, Place};
 
 use crate::sandbox::{Done, Sandbox};
@@ -194,10 +196,219 @@ fn what_is_found_is_told() {
     sandbox.write("outage.log", &log);
     sandbox.say("log outage.log").refuses(&[
         "at offset 515 of outage.log",
-        "no whole entry; its length reads 116",
+        "no whole entry; its length reads 116. From offset 631 on whole entries follow: 7 entries, LSN 108 to 114, 1 Commit among them",
+        "with --log-until 515 takes only the log before that place, as if the power had failed there, and leaves out the 618 bytes from there on, with 7 whole entries or more",
+    ]);
+    let mut ended = log[..640].to_vec();
+    sandbox.write("outage.log", &ended);
+    sandbox.say("log outage.log").refuses(&[
+        "reads 116, and no whole entry follows in the 125 bytes from there on",
+        "leaves out the 125 bytes from there on, in which no whole entry follows",
+    ]);
+    ended[515..].fill(0);
+    sandbox.write("outage.log", &ended);
+    sandbox.say("log outage.log").refuses(&[
+        "found:      all 125 bytes from there on are 0\n",
+        "--log-until 515 takes only the log before that place, as if the power had failed there, and leaves out the 125 zero bytes\n",
     ]);
     sandbox.write("text", b"this is no log, and long enough to hold a header");
     sandbox
         .say("log text")
         .refuses(&["48 bytes, which start with '746869732069'"]);
+}
+
+const MAGIC: u64 = u64::from_le_bytes(*b"CRANES01");
+
+/// A log of entries with the LSNs 1, 2 and so on.
+fn log_of(entries: &[Entry]) -> Vec<u8> {
+    let mut log = log_header(&[0; 26]);
+    for (lsn, entry) in (1..).zip(entries) {
+        let lsn = if entry.lsn == 0 { lsn } else { entry.lsn };
+        log.extend(
+            Entry {
+                lsn,
+                ..entry.clone()
+            }
+            .encode(),
+        );
+    }
+    log
+}
+
+/// What a refusal of these entries over one empty data page says it found.
+fn found(entries: &[Entry], texts: &[&str]) {
+    let sandbox = Sandbox::new();
+    let pages = [
+        DataPage::plain(MAGIC, 0, 5, Slots::new()).packed(),
+        plain_page(MAGIC, FREE, 1, 900),
+        plain_page(MAGIC, FREE, 2, 800),
+    ];
+    sandbox.write("pages", &pages.concat());
+    sandbox.write("log", &log_of(entries));
+    sandbox.say("recover pages log --dry-run").refuses(texts);
+    let object = sandbox.say("row pages log 0 0 --json").ends(3).json();
+    for text in &texts[1..] {
+        assert!(
+            object.text("found").contains(text),
+            "no '{text}' in {object:?}"
+        );
+    }
+}
+
+#[test]
+fn what_else_is_found_is_told() {
+    let row = live_tuple(7, b"row");
+    found(
+        &[Entry::bare(0, CHECKPOINT).with_lsn(9)],
+        &["refused: 12 PAGE_LSN at page 1", "the page's LSN is 900, the floor 0, and the log's last LSN is 9; the highest page LSN is 900, of page 1"],
+    );
+    found(
+        &[],
+        &["refused: 12 PAGE_LSN at page 0", "the page's LSN is 5, the floor 0, and the log has no entry; the highest page LSN is 900, of page 1"],
+    );
+    found(
+        &[Entry::bare(7, BEGIN), Entry::bare(8, BEGIN), Entry::insert(7, 0, 3, &row), Entry::insert(8, 0, 3, &row)],
+        &["refused: 9 CLASH at offset 198", "transaction 8, type 4 Insert, page 0 slot 3; transaction 7 changed this slot at offset 118, LSN 3, and has not ended"],
+    );
+    found(
+        &[
+            Entry::bare(7, BEGIN).with_lsn(40),
+            Entry::bare(8, BEGIN).with_lsn(40),
+        ],
+        &[
+            "refused: 7 LSN_ORDER at offset 75",
+            "; the entry before it, at offset 32, has LSN 40",
+        ],
+    );
+    found(
+        &[Entry::bare(7, BEGIN), Entry::bare(7, COMMIT), Entry::insert(7, 0, 3, &row)],
+        &["refused: 8 TRANSACTION_ORDER at offset 118", "transaction 7 starts at offset 32, and its last entry before this one is Commit at offset 75"],
+    );
+    found(
+        &[Entry::insert(7, 0, 3, &row)],
+        &[
+            "refused: 8 TRANSACTION_ORDER at offset 32",
+            "nothing of transaction 7 stands before it",
+        ],
+    );
+    found(
+        &[Entry::bare(0, BEGIN)],
+        &[
+            "refused: 8 TRANSACTION_ORDER at offset 32",
+            "transaction 0 neither begins nor ends",
+        ],
+    );
+    let far = |entry: Entry| [entry, Entry::bare(0, CHECKPOINT).with_lsn(1_000)];
+    found(
+        &far(Entry::insert(0, 1, 3, &row)),
+        &[
+            "refused: 13 NO_DATA_PAGE at offset 32",
+            "; page 1 has type 4 free",
+        ],
+    );
+    found(
+        &far(Entry::insert(0, 3, 3, &row)),
+        &[
+            "refused: 13 NO_DATA_PAGE at offset 32",
+            "; there are pages 0 to 2",
+        ],
+    );
+    let long = live_tuple(0, &[1; 16_313 - 24]);
+    found(
+        &far(Entry::insert(0, 0, 1, &long)),
+        &[
+            "refused: 14 PAGE_OVERFULL at page 0",
+            "16321 bytes are needed, 8 for 2 slots and 16313 for tuples; a page has 16320",
+        ],
+    );
+}
+
+/// What the command says is needed is more than a page has wherever that is refused.
+#[test]
+fn bytes_needed_are_too_many() {
+    let mut seen = 0;
+    for mutation in mutations()
+        .iter()
+        .filter(|it| it.number == 14 && it.seldom == 1)
+    {
+        for seed in 0..6 {
+            let case = mutated_by(&mut Rng::new(seed), seed, mutation);
+            let sandbox = sandbox_of(&case);
+            let words = format!("recover pages log --dry-run {}", options(&case));
+            let done = sandbox.say(&words).ends(3);
+            let needed = done.err.split("found:      ").nth(1).unwrap();
+            let needed: u64 = needed.split(' ').next().unwrap().parse().unwrap();
+            assert!(needed > 16_320, "{done:#?}");
+            seen += 1;
+        }
+    }
+    assert!(seen > 5);
+}
+
+#[test]
+fn swapped_files_are_recognised() {
+    let sandbox = Sandbox::with_outage();
+    for words in [
+        "recover outage.log outage.pages",
+        "row outage.log outage.pages 1 1",
+        "verify outage.log",
+    ] {
+        sandbox.say(words).refuses(&[
+            "refused: 1 PAGE_AREA",
+            "the page file starts with WALN, as logs do: give PAGES first, then LOG",
+        ]);
+    }
+    let mut log = sandbox.read("outage.log");
+    log.resize(16_384, 0);
+    sandbox.write("long.log", &log);
+    sandbox
+        .say("verify long.log")
+        .refuses(&["refused: 11 PAGE_NOT_GOOD", "starts with WALN"]);
+    for words in ["log outage.pages", "recover outage.pages outage.pages"] {
+        sandbox.say(words).refuses(&[
+            "refused: 3 LOG_HEADER",
+            "by its length it may be a page file",
+        ]);
+    }
+}
+
+/// The log before any entry's end is taken as a log of its own.
+#[test]
+fn a_log_may_be_cut() {
+    let sandbox = Sandbox::with_outage();
+    let log = sandbox.read("outage.log");
+    for until in [32, 429, 472, 500, 831, 1_072, 1_133] {
+        sandbox.write("cut.log", &log[..until]);
+        let whole = sandbox.say("recover outage.pages cut.log --floor 200 --out one --force");
+        let words = format!(
+            "recover outage.pages outage.log --floor 200 --out two --force --log-until {until}"
+        );
+        let cut = sandbox.say(&words).done();
+        assert!(cut.out.contains(&format!(
+            "outage.log: 1133 bytes, taken up to {until}, floor 200"
+        )));
+        let report = |text: &str| {
+            text.lines()
+                .skip(2)
+                .take(4)
+                .map(str::to_string)
+                .collect::<Vec<_>>()
+        };
+        assert_eq!(report(&cut.out), report(&whole.done().out));
+        assert!(sandbox.read("one") == sandbox.read("two"));
+    }
+    let json = sandbox.say("row outage.pages outage.log 1 3 --log-until 429 --floor 200 --json");
+    let json = json.done().json();
+    assert_eq!(
+        (json.number("log_until"), json.number("log_bytes")),
+        (429, 1_133)
+    );
+    assert!(!json.flag("filled"));
+    for until in ["31", "1134"] {
+        sandbox
+            .say(&format!(
+                "recover outage.pages outage.log --log-until {until}"
+            ))
+            .fails(&["not from 32, where entries start, to 1133, where the log ends"]);
+    }
 }

@@ -10,6 +10,9 @@ use crate::json::Value;
 
 pub const BINARY: &str = env!("CARGO_BIN_EXE_lumbraquay");
 
+/// What a slow run says on standard error.
+pub const SLOW: &str = "takes longer than two seconds";
+
 /// The directory that README.md stands in.
 pub fn repository() -> PathBuf {
     Path::new(env!("CARGO_MANIFEST_DIR")).join("../..")
@@ -83,16 +86,7 @@ impl Sandbox {
     }
 
     fn finish(&self, command: &mut Command) -> Done {
-        let Output {
-            status,
-            stdout,
-            stderr,
-        } = command.current_dir(&self.path).output().unwrap();
-        Done {
-            status: status.code(),
-            out: String::from_utf8(stdout).unwrap(),
-            err: String::from_utf8(stderr).unwrap(),
-        }
+        Done::of(command.current_dir(&self.path).output().unwrap())
     }
 }
 
@@ -111,6 +105,19 @@ pub struct Done {
 }
 
 impl Done {
+    pub fn of(output: Output) -> Done {
+        // A busy machine may make any run slow.
+        let err = String::from_utf8(output.stderr).unwrap();
+        let err = err
+            .split_inclusive('\n')
+            .filter(|line| !line.contains(SLOW));
+        Done {
+            status: output.status.code(),
+            out: String::from_utf8(output.stdout).unwrap(),
+            err: err.collect(),
+        }
+    }
+
     #[track_caller]
     pub fn ends(self, status: i32) -> Done {
         assert_eq!(self.status, Some(status), "{self:#?}");
@@ -131,6 +138,20 @@ impl Done {
         let done = self.ends(2);
         assert_eq!(done.out, "");
         done.tells(texts)
+    }
+
+    /// The same as one JSON object, which is given back.
+    #[track_caller]
+    pub fn fails_as_json(self, text: &str) -> Value {
+        let done = self.ends(2);
+        assert_eq!(done.err, "");
+        let object = done.json();
+        assert_eq!(object.text("result"), "error");
+        assert!(
+            object.text("message").contains(text),
+            "no '{text}' in {object:?}"
+        );
+        object
     }
 
     /// Refused, with each of these on standard error.

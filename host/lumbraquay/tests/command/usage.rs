@@ -2,8 +2,8 @@
 
 use crate::sandbox::Sandbox;
 
-const COMMANDS: [&str; 8] = [
-    "demo", "recover", "verify", "log", "rows", "row", "freemap", "replay",
+const COMMANDS: [&str; 10] = [
+    "demo", "recover", "verify", "log", "pages", "rows", "row", "freemap", "report", "replay",
 ];
 
 #[test]
@@ -82,7 +82,10 @@ fn wrong_words_are_told() {
             "verify outage.pages --magic 18446744073709551616",
             "not a number up to",
         ),
-        ("verify outage.pages --json --json", "--json is given twice"),
+        (
+            "verify outage.pages --magic 7 --magic 7",
+            "--magic is given twice",
+        ),
         ("verify outage.pages --json=yes", "--json takes no value"),
         (
             "log outage.log --limit many",

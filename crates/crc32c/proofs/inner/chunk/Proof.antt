@@ -3,7 +3,7 @@ use native.Mathlib.Omega.{arith}
 use mathlib.Core.Path.{ap, sym, _∙_}
 use Prim.Native.Nat.{ℕ}
 use lib.ListN.{drop}
-use Rattle.crc32c.specs.Sparse.{carried}
+use Rattle.crc32c.specs.Sparse.{chunkBytes, carried}
 use Rattle.crc32c.proofs.Sparse.{chunked, carried-moved}
 use Rattle.crc32c.proofs.inner.chunk.Statement.{statement}
 use Rattle.crc32c.proofs.inner.chunk.Tie as tie
@@ -13,7 +13,7 @@ returns c =
     let e = c .before .before .before .before .before in
     let f = c .before .before .fill in (
       λ r l.
-          carried-moved (c .back .last .0) (f .last .0) r 1984 (c .back .ensures .0)
+          carried-moved (c .back .last .0) (f .last .0) r chunkBytes (c .back .ensures .0)
           ∙ ap (λ (n : ℕ). carried (drop n (f .last .0)) r) (sym (e .pre .0))
           ∙ chunked (e .args .p .now) (e .args .s .now) (f .last .0) r (e .pre .1) (f .ensures .1) (omega arith) l (f .ensures .0),
       c .back .ensures .1,

@@ -3,13 +3,13 @@ use mathlib.Core.Path.{_≡_, refl}
 use Prim.Native.Nat.{_+_, _-_, _<_, _≤_}
 use native.Mathlib.Omega.{arith}
 use lib.ListN.{length, getD}
-use Rattle.crc32c.specs.Sparse.{pull, Filled, Room}
+use Rattle.crc32c.specs.Sparse.{historyBytes, bufferBytes, pull, Filled, Room}
 use Rattle.crc32c.proofs.Stores.{filled-none, filled-more, room-set, byte-xor, pull-lt}
 use Rattle.crc32c.proofs.inner.fill.Statement.{statement}
 use Rattle.crc32c.proofs.inner.fill.Tie as tie
 
 abbrev Inv-loop : tie.InvT-loop
-Inv-loop p₀ s j₀ p j = (j ≤ length s) × Filled 2 j p₀ s p × Room 2402 p
+Inv-loop p₀ s j₀ p j = (j ≤ length s) × Filled 2 j p₀ s p × Room bufferBytes p
 
 abbrev μ-loop : tie.MeasureT-loop
 μ-loop p₀ s j₀ p j = length s - j
@@ -25,11 +25,11 @@ loop-again c =
     let l = d .loop in
     let s = d .before .args .s .now in
     let r = l .inv .2 in
-    let z : length (l .p) ≡ 2402 = r .size in
+    let z : length (l .p) ≡ bufferBytes = r .size in
     let y : getD s (l .j) 0 < 256 = c .before .before .before .before .before .shared-slice-known .given (l .j) .fits in (
       omega arith,
       filled-more 2 (l .j) _ _ _ (l .p) (omega arith) (omega arith) refl (l .inv .1),
-      room-set (l .j + 418) _ (byte-xor y (pull-lt 2 (λ i. getD (l .p) i 0) (l .j) (λ i. r .bytes .at i))) r,
+      room-set (l .j + historyBytes) _ (byte-xor y (pull-lt 2 (λ i. getD (l .p) i 0) (l .j) (λ i. r .bytes .at i))) r,
     )
 
 returns : tie.Need-returns Inv-loop μ-loop

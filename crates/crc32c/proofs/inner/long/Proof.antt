@@ -5,13 +5,14 @@ use Prim.Native.Nat.{ℕ, _+_, _-_, _≤_}
 use native.Mathlib.Omega.{arith}
 use lib.ListN.{length, drop}
 use Rattle.crc32c.specs.Crc.{fed}
-use Rattle.crc32c.specs.Sparse.{carried, Room}
-use Rattle.crc32c.proofs.Sparse.{started, begun-room, stepped, ended, part-size}
+use Rattle.crc32c.specs.Sparse.{chunkBytes, bufferBytes, endingBytes, carried, Room}
+use Rattle.crc32c.proofs.Sparse.{started, begun-room, stepped, ended}
+use Rattle.crc32c.proofs.Runs.{part-length}
 use Rattle.crc32c.proofs.inner.long.Statement.{statement}
 use Rattle.crc32c.proofs.inner.long.Tie as tie
 
 abbrev Inv-loop : tie.InvT-loop
-Inv-loop t c s p₀ e i₀ p i = (i ≤ e) × (carried p (drop i s) ≡ fed c s) × Room 2402 p
+Inv-loop t c s p₀ e i₀ p i = (i ≤ e) × (carried p (drop i s) ≡ fed c s) × Room bufferBytes p
 
 abbrev μ-loop : tie.MeasureT-loop
 μ-loop t c s p₀ e i₀ p i = e - i
@@ -29,7 +30,7 @@ chunk-requires : tie.Need-chunk-requires Inv-loop μ-loop
 chunk-requires c κs =
     let l = c .before .before .before .loop in
     let s = c .before .before .before .before .before .before .before .before .args .s .now in
-    let z = part-size s (l .i) (l .i + 1984) (omega arith) (omega arith) in
+    let z = part-length s (l .i) (l .i + chunkBytes - l .i) (omega arith) in
     (omega arith, l .inv .2)
 
 loop-again : tie.Need-loop-again Inv-loop μ-loop
@@ -37,7 +38,7 @@ loop-again c =
     let l = c .before .before .before .before .loop in
     let s = c .before .before .before .before .before .before .before .before .before .args .s .now in (
       omega arith,
-      stepped (l .p) (c .chunk .last .0) s (l .i) (l .i + 1984) _ (omega arith) (omega arith) (c .chunk .ensures .0) (l .inv .1),
+      stepped (l .p) (c .chunk .last .0) s (l .i) (l .i + chunkBytes) _ (omega arith) (omega arith) (c .chunk .ensures .0) (l .inv .1),
       c .chunk .ensures .1,
     )
 
@@ -45,14 +46,14 @@ fill-requires : tie.Need-fill-requires Inv-loop μ-loop
 fill-requires c κs =
     let l = c .before .before .before .loop in
     let s = c .before .before .before .before .before .before .before .before .args .s .now in
-    let z = part-size s (l .i) (length s - 448) (l .inv .0) (omega arith) in
+    let z = part-length s (l .i) (length s - endingBytes - l .i) (omega arith) in
     (omega arith, l .inv .2)
 
 tail-requires : tie.Need-tail-requires Inv-loop μ-loop
 tail-requires c κs =
     let b = c .before .before .before .before .before .before .before .before .before .before .before in
     let s = b .args .s .now in
-    let z = part-size s (length s - 448) (length s) (omega arith) (omega arith) in
+    let z = part-length s (length s - endingBytes) (length s - (length s - endingBytes)) (omega arith) in
     ((b .pre .0, omega arith, omega arith), c .before .before .fill .ensures .1)
 
 returns : tie.Need-returns Inv-loop μ-loop
@@ -60,7 +61,7 @@ returns c =
     let l = c .before .before .before .before .before .before .before .loop in
     let f = c .before .before .before .fill in
     let s = c .before .before .before .before .before .before .before .before .before .before .before .before .args .s .now in
-    ended (l .p) (f .last .0) s (l .i) (length s - 448) _ _ (l .inv .0) (omega arith) (omega arith) (l .inv .2) (f .ensures .1) (f .ensures .0) (c .tail .ensures) (l .inv .1)
+    ended (l .p) (f .last .0) s (l .i) (length s - endingBytes) _ _ (l .inv .0) (omega arith) (omega arith) (l .inv .2) (f .ensures .1) (f .ensures .0) (c .tail .ensures) (l .inv .1)
 
 pub long-spec : {M : Type 1} → statement M
 long-spec =

@@ -4,23 +4,23 @@ use Prim.Native.Nat.{_+_, _-_, _≤_}
 use native.Mathlib.Omega.{arith}
 use lib.Bits.{bitXor}
 use lib.ListN.{length, getD}
-use Rattle.crc32c.specs.Sparse.{pull, Room}
+use Rattle.crc32c.specs.Sparse.{historyBytes, endingBytes, pull, Room}
 use Rattle.crc32c.proofs.Sparse.{mixed, zeros-at}
 use Rattle.crc32c.proofs.Stores.{Below, Above, below-more, above-more, room-set, room-zeros, byte-xor, pull-lt}
 use Rattle.crc32c.proofs.inner.mix.Statement.{statement}
 use Rattle.crc32c.proofs.inner.mix.Tie as tie
 
 abbrev Inv-copy : tie.InvT-copy
-Inv-copy p n s o z₀ i₀ z i = (i ≤ 418) × Below z (λ m. getD p (m + n) 0) i × Above z (λ m. 0) i × Room 736 z
+Inv-copy p n s o z₀ i₀ z i = (i ≤ historyBytes) × Below z (λ m. getD p (m + n) 0) i × Above z (λ m. 0) i × Room 736 z
 
 abbrev μ-copy : tie.MeasureT-copy
-μ-copy p n s o z₀ i₀ z i = 418 - i
+μ-copy p n s o z₀ i₀ z i = historyBytes - i
 
 abbrev Inv-mix : tie.InvT-mix
-Inv-mix p n s o₀ z i j₀ o j = (j ≤ 448) × Below o (λ m. bitXor (getD s m 0) (pull 2 (λ i. getD z i 0) m)) j × Room 448 o
+Inv-mix p n s o₀ z i j₀ o j = (j ≤ endingBytes) × Below o (λ m. bitXor (getD s m 0) (pull 2 (λ i. getD z i 0) m)) j × Room endingBytes o
 
 abbrev μ-mix : tie.MeasureT-mix
-μ-mix p n s o₀ z i j₀ o j = 448 - j
+μ-mix p n s o₀ z i j₀ o j = endingBytes - j
 
 copy-holds : tie.Need-copy-holds Inv-copy μ-copy Inv-mix μ-mix
 copy-holds c =
@@ -49,7 +49,7 @@ mix-again c =
     let l = c .before .before .mix in
     let k = c .before .before .before .before .copy in
     let r = l .inv .2 in
-    let z : length (l .o) ≡ 448 = r .size in (
+    let z : length (l .o) ≡ endingBytes = r .size in (
       omega arith,
       below-more (l .o) _ (l .j) _ (omega arith) refl (l .inv .1),
       room-set (l .j) _ (byte-xor (c .shared-slice-known .given (l .j) .fits) (pull-lt 2 (λ i. getD (k .z) i 0) (l .j) (λ i. k .inv .3 .bytes .at i))) r,

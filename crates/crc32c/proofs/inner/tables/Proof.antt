@@ -10,16 +10,16 @@ use Rattle.crc32c.proofs.inner.tables.Statement.{statement}
 use Rattle.crc32c.proofs.inner.tables.Tie as tie
 
 abbrev Inv-first : tie.InvT-first
-Inv-first t₀ n₀ k₀ t n k = (k ≤ 256) × (n ≡ k) × (length t ≡ 2048) × Upto t k
+Inv-first t₀ n₀ k₀ t n k = (k ≤ 256) × (n ≡ k) × (length t ≡ 4096) × Upto t k
 
 abbrev μ-first : tie.MeasureT-first
 μ-first t₀ n₀ k₀ t n k = 256 - k
 
 abbrev Inv-rest : tie.InvT-rest
-Inv-rest t₀ n k₀ t k = (256 ≤ k) × (k ≤ 2048) × (length t ≡ 2048) × Upto t k
+Inv-rest t₀ n k₀ t k = (256 ≤ k) × (k ≤ 4096) × (length t ≡ 4096) × Upto t k
 
 abbrev μ-rest : tie.MeasureT-rest
-μ-rest t₀ n k₀ t k = 2048 - k
+μ-rest t₀ n k₀ t k = 4096 - k
 
 first-holds : tie.Need-first-holds Inv-first μ-first Inv-rest μ-rest
 first-holds c = (omega arith, refl, refl, λ m h. absurd (omega arith))

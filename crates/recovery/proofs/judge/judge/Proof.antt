@@ -8,7 +8,7 @@ use Rattle.wal.specs.Read.{first}
 use Rattle.wal.specs.Walk.{entries}
 use Rattle.page.specs.Layout.{pagesIn}
 use Rattle.page.specs.Fault.{sizeWrong}
-use Rattle.page.specs.declared.Verdict.{Verdict}
+use Rattle.refusals.specs.declared.Verdict.{Verdict}
 use Rattle.rules.specs.Order.{logVerdict, lastLsn}
 use Rattle.rules.specs.Recover.{pagesFrom, strayFrom}
 use Rattle.order.specs.First.{fullOf}
