@@ -79,26 +79,31 @@ olderRowOf = rowBy (newestBy false)
 
 -- ---- what is written
 
+-- a name: its length u8 and its bytes
+abbrev pub nameBytes : List ℕ → List ℕ
+nameBytes name = bytesOf 1 (length name) ++ name
+
 -- a row in the newest form
 unfoldable pub rowBytes : ℕ → ℕ → List ℕ → List ℕ → ℕ → ℕ → List ℕ
 rowBytes table root schema name layout version =
-    ((((((bytesOf 4 table ++ bytesOf 8 root) ++ bytesOf 1 (length schema)) ++ schema) ++ bytesOf 1 (length name)) ++ name) ++ bytesOf 1 layout) ++ bytesOf 8 version
+    ((((bytesOf 4 table ++ bytesOf 8 root) ++ nameBytes schema) ++ nameBytes name) ++ bytesOf 1 layout) ++ bytesOf 8 version
 
-abbrev pub rowLength : List ℕ → List ℕ → ℕ
-rowLength schema name = 23 + length schema + length name
+-- its length, by those of the names
+abbrev pub rowLength : ℕ → ℕ → ℕ
+rowLength schema name = 23 + schema + name
 
--- both names have at most 255 bytes, and the area has room
-unfoldable pub hasRoom : List ℕ → List ℕ → List ℕ → Bool
-hasRoom schema name area = pick (leb (length schema) 255) (pick (leb (length name) 255) (leb (rowLength schema name) (length area)) false) false
+-- names of these lengths have at most 255 bytes, and an area of this length has room
+unfoldable pub hasRoom : ℕ → ℕ → ℕ → Bool
+hasRoom schema name area = pick (leb schema 255) (pick (leb name 255) (leb (rowLength schema name) area) false) false
 
 -- 36 for another layout, then 37 where there is no room; else the length written
 unfoldable pub writeAnswer : List ℕ → List ℕ → ℕ → List ℕ → Written
 writeAnswer schema name layout area =
     pick (leb layout 1)
-    (pick (hasRoom schema name area) (record { number = 0; length = rowLength schema name }) (record { number = rowNoRoom; length = 0 }))
+    (pick (hasRoom (length schema) (length name) (length area)) (record { number = 0; length = rowLength (length schema) (length name) }) (record { number = rowNoRoom; length = 0 }))
     (record { number = rowLayout; length = 0 })
 
 -- the lent area then: the row and the later bytes as they were; refused, all as lent
 unfoldable pub areaAfter : ℕ → ℕ → List ℕ → List ℕ → ℕ → ℕ → List ℕ → List ℕ
 areaAfter table root schema name layout version area =
-    pick (eqb (writeAnswer schema name layout area .number) 0) (rowBytes table root schema name layout version ++ drop (rowLength schema name) area) area
+    pick (eqb (writeAnswer schema name layout area .number) 0) (rowBytes table root schema name layout version ++ drop (rowLength (length schema) (length name)) area) area

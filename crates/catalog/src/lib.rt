@@ -1,9 +1,11 @@
 // The catalog's table rows: reading a payload, as the newest and as an older reader do, and writing one in the newest form.
 ghost use mathlib.Core.Path.{_≡_};
-ghost use mathlib.Core.Bool.{Bool};
+ghost use mathlib.Core.List.{_++_};
 ghost use Prim.Native.Nat.{ℕ, _+_, _<_, _≤_};
-ghost use lib.ListN.{length, getD};
-ghost use Rattle.catalog.specs.TableRows.{partAt, laid, refusedRow, newestBy, rowBy, rowOf, olderRowOf, hasRoom, writeAnswer, areaAfter};
+ghost use lib.ListN.{length, drop, getD};
+ghost use lib.Seq.{paste};
+ghost use Rattle.endian.specs.Numbers.{bytesOf};
+ghost use Rattle.catalog.specs.TableRows.{partAt, laid, refusedRow, newestBy, rowBy, rowOf, olderRowOf, rowBytes, rowLength, hasRoom, writeAnswer, areaAfter};
 use endian::inner::copy_in;
 use endian::inner::put_u8;
 use endian::inner::put_u32;
@@ -142,4 +144,81 @@ pub fn read_older(payload: &[u8]) -> TableRow
     ensures { λ r. ⌜ r ≡ olderRowOf (now (payload .entry)) ⌝ }
 {
     row_by(payload, false)
+}
+
+// Whether names of these lengths are short enough, and an area of this length has room for the row.
+fn has_room(schema: usize, name: usize, area: usize) -> bool
+    ensures { λ r. ⌜ r ≡ hasRoom schema name area ⌝ }
+{
+    if NAME_LIMIT < schema {
+        return false;
+    }
+    if NAME_LIMIT < name {
+        return false;
+    }
+    FIXED_BYTES + schema + name <= area
+}
+
+// Writes a name's length and its bytes.
+fn put_name(area: &mut [u8], at: usize, name: &[u8])
+    requires { ⌜ (length (now name) ≤ 255) × (at + 1 + length (now name) ≤ length (now area)) ⌝ }
+    ensures { λ _. ⌜ now (area .exit) ≡ paste (now (area .entry)) at (bytesOf 1 (length (now (name .entry))) ++ now (name .entry)) (1 + length (now (name .entry))) ⌝ }
+{
+    put_u8(area, at, name.len() as u8);
+    copy_in(area, at + 1, name);
+}
+
+// Writes a row in the newest form.
+fn put_row(
+    area: &mut [u8],
+    table: u32,
+    root: u64,
+    schema: &[u8],
+    name: &[u8],
+    layout: u8,
+    version: u64,
+)
+    requires { ⌜ (length (now schema) ≤ 255) × (length (now name) ≤ 255) × (rowLength (length (now schema)) (length (now name)) ≤ length (now area)) ⌝ }
+    ensures { λ _. ⌜ now (area .exit) ≡ rowBytes table root (now (schema .entry)) (now (name .entry)) layout version ++ drop (rowLength (length (now (schema .entry))) (length (now (name .entry)))) (now (area .entry)) ⌝ }
+{
+    put_u32(area, 0, table);
+    put_u64(area, 4, root);
+    put_name(area, SCHEMA_LENGTH_AT, schema);
+    let at = SCHEMA_LENGTH_AT + 1 + schema.len();
+    put_name(area, at, name);
+    let end = at + 1 + name.len();
+    put_u8(area, end, layout);
+    put_u64(area, end + 1, version);
+}
+
+// Writes a row in the newest form at the front of an area and says its length; later bytes are kept. Refuses 36, then 37, and leaves the area as it is.
+pub fn write(
+    table: u32,
+    root: u64,
+    schema: &[u8],
+    name: &[u8],
+    layout: u8,
+    version: u64,
+    area: &mut [u8],
+) -> Written
+    ensures { λ r. ⌜ r ≡ writeAnswer (now (schema .entry)) (now (name .entry)) layout (now (area .entry)) ⌝ }
+    ensures { λ _. ⌜ now (area .exit) ≡ areaAfter table root (now (schema .entry)) (now (name .entry)) layout version (now (area .entry)) ⌝ }
+{
+    if CLUSTERED < layout {
+        return Written {
+            number: ROW_LAYOUT,
+            length: 0,
+        };
+    }
+    if !has_room(schema.len(), name.len(), area.len()) {
+        return Written {
+            number: ROW_NO_ROOM,
+            length: 0,
+        };
+    }
+    put_row(area, table, root, schema, name, layout, version);
+    Written {
+        number: 0,
+        length: FIXED_BYTES + schema.len() + name.len(),
+    }
 }
