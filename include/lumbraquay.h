@@ -4,8 +4,8 @@
  * None allocates, does input or output, keeps a pointer or has state of its own, so calls on different buffers may run
  * at the same time. Each needs under 1 MiB of stack.
  *
- * Buffers. A buffer is a pointer and its length: in bytes, or for a table in numbers. A pointer is never null, also
- * where its length is 0. A buffer that is written (pages of lq_recover, table, map, out) overlaps no other.
+ * Buffers. A buffer is a pointer and its length: in bytes, or for a table or rows in numbers. A pointer is never null, also
+ * where its length is 0. A buffer that is written (pages of lq_recover, table, rows, map, out) overlaps no other.
  *
  * Answers. out is an array of numbers in the order that its comment gives. Its first number is 0 for done or one of
  * the refusals below, its second the refusal's place; refused, all later ones are 0 and every other buffer keeps its
@@ -26,6 +26,7 @@ extern "C" {
 #define LQ_PAGE_LIMIT 4096         /* more pages are refused by 1 */
 #define LQ_LOG_LIMIT_BYTES 16777216 /* a longer log is refused by 2 */
 #define LQ_RECORD_NUMBERS 4        /* numbers of a table that make one record */
+#define LQ_ROW_NUMBERS 3           /* numbers of a listing that make one row */
 
 /* Refusals, each with what its place is. The first that holds in this order is given: 1, 2, 3; then entry by entry 4 to
  * 10 in turn; then page by page 11 before 12; then 13, the earliest entry; then 14, the lowest page; then 15 or 16. */
@@ -109,6 +110,14 @@ void lq_read_row(uint64_t magic, uint64_t floor, const uint8_t *pages, size_t pa
  * checks every page.
  * out: 0 number, 1 place, 2 found (1 or 0), 3 page, 4 slot, 5 tuple length, row header and payload. None is all 0. */
 void lq_next_visible(uint64_t magic, const uint8_t *pages, size_t len, uint64_t page, uint16_t slot, uint64_t out[6]);
+
+/* The rows with deleted byte 0 on pages of type 1, from a slot of a page on, as many as rows has room for: three numbers
+ * each, page, slot, tuple length (row header and payload), in that order; later numbers stay. Refuses 1 and 11: each
+ * call checks every page, so lend room for many. To go on, call again from the page and slot that are given back.
+ * out: 0 number, 1 place, 2 rows given, 3 page and 4 slot of the first row that found no room; where all are given, the
+ *      count of pages and 0. */
+void lq_list_visible(uint64_t magic, const uint8_t *pages, size_t len, uint64_t page, uint16_t slot, uint64_t *rows,
+                     size_t rows_len, uint64_t out[5]);
 
 /* Writes the map of free pages: bit i, lowest bit first, is 1 exactly if page i has type 4. It needs a byte for every 8
  * pages begun; spare bits of the last one are 0 and later bytes stay. Refuses 1, 11 and 16.

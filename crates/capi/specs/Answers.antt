@@ -17,6 +17,7 @@ use Rattle.page.specs.Rows.{nextRow}
 use Rattle.page.specs.FreeMap.{mapVerdict, freeCount}
 use Rattle.refusals.specs.declared.Verdict.{Verdict}
 use Rattle.page.specs.declared.NextRow.{NextRow}
+use Rattle.page.specs.declared.RowList.{RowList}
 use Rattle.page.specs.declared.NextRow.the-variants.{Refused, At, NoMore}
 
 -- ---- the log
@@ -75,6 +76,10 @@ rowNumbers NoMore = 0 ∷ 0 ∷ 0 ∷ 0 ∷ 0 ∷ 0 ∷ []
 
 unfoldable pub nextVisibleNumbers : ℕ → List ℕ → ℕ → ℕ → List ℕ
 nextVisibleNumbers magic pages page slot = rowNumbers (nextRow magic pages page slot)
+
+-- lq_list_visible: number, place, rows given, page and slot to go on from
+abbrev pub listNumbers : RowList → List ℕ
+listNumbers l = l .verdict .number ∷ l .verdict .place ∷ l .count ∷ l .page .0 ∷ l .slot ∷ []
 
 -- lq_free_map: number, place, free pages
 unfoldable pub freeMapNumbers : ℕ → List ℕ → List ℕ → List ℕ

@@ -3,12 +3,16 @@ ghost use mathlib.Core.Path.{_≡_};
 ghost use Rattle.crc32c.specs.Crc.{crc32c as crcOf};
 ghost use Rattle.wal.specs.Read.{found};
 ghost use Rattle.wal.specs.declared.Before.the-variants.{Found, Nothing};
+ghost use Prim.Native.Nat.{_/_};
+ghost use lib.ListN.{length};
+ghost use Rattle.page.specs.Rows.{rowList, rowsAfter};
 ghost use Rattle.page.specs.FreeMap.{mapAfter};
-ghost use Rattle.capi.specs.Answers.{openNumbers, stepNumbers, kindForward, kindBackward, forwardNumbers, backwardNumbers, verifyNumbers, rowNumbers, nextVisibleNumbers, freeMapNumbers, answerNumbers, locatedNumbers, readRowNumbers};
+ghost use Rattle.capi.specs.Answers.{openNumbers, stepNumbers, kindForward, kindBackward, forwardNumbers, backwardNumbers, verifyNumbers, rowNumbers, nextVisibleNumbers, listNumbers, freeMapNumbers, answerNumbers, locatedNumbers, readRowNumbers};
 ghost use Rattle.recovery.specs.Flat.{recoverFlat};
 use endian::Lsn;
 use endian::PageNumber;
 use page::NextRow;
+use page::RowList;
 use rules::Answer;
 use rules::Located;
 use wal::Before;
@@ -142,6 +146,32 @@ pub extern "C" fn lq_next_visible(
     ensures { λ _. ⌜ now (out .exit) ≡ nextVisibleNumbers magic (now (pages .entry)) page slot ⌝ }
 {
     *out = row_numbers(page::next_visible(magic, pages, PageNumber(page), slot as usize));
+}
+
+// The numbers of a listing.
+fn list_numbers(l: RowList) -> [u64; 5]
+    ensures { λ r. ⌜ r ≡ listNumbers l ⌝ }
+{
+    let v = l.verdict;
+    let next = l.page;
+    [v.number, v.place, l.count as u64, next.0, l.slot as u64]
+}
+
+// The visible rows at or after a slot of a page, three numbers each in rows, as many as they hold: number, place, how many, and the page and slot to go on from.
+#[no_mangle]
+pub extern "C" fn lq_list_visible(
+    magic: u64,
+    pages: &[u8],
+    page: u64,
+    slot: u16,
+    rows: &mut [u64],
+    out: &mut [u64; 5],
+)
+    ensures { λ _. ⌜ now (out .exit) ≡ listNumbers (rowList magic (now (pages .entry)) page slot (length (now (rows .entry)) / 3)) ⌝ }
+    ensures { λ _. ⌜ now (rows .exit) ≡ rowsAfter magic (now (pages .entry)) page slot (now (rows .entry)) ⌝ }
+{
+    let l = page::list_visible(magic, pages, PageNumber(page), slot as usize, rows);
+    *out = list_numbers(l);
 }
 
 // Writes the map of free pages: number, place and count of free pages.

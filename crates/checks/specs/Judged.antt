@@ -5,7 +5,7 @@ use mathlib.Core.Bool.{Bool}
 use mathlib.Core.List.{List}
 use lib.ListN.{getD}
 use Rattle.wal.specs.Walk.{entries, endOf}
-use Rattle.page.specs.Layout.{pageBytes, dataType}
+use Rattle.page.specs.Layout.{pageBytes, typeAt, dataType}
 use Rattle.rules.specs.Order.{lastLsn, logVerdict}
 use Rattle.order.specs.First.{told}
 use Rattle.order.specs.declared.Walked.{Walked}
@@ -22,4 +22,4 @@ pub record Judged (full : ℕ → Bool) (s : List ℕ) (n : ℕ) (starts lasts :
 
 -- each touched one of the first n pages is of type 1; the cells of a touched page end behind their start
 pub record OfData (pages : List ℕ) (n : ℕ) (starts : List ℕ) : Type 0 where
-  pub at : (i : ℕ) → i < n → (getD starts i 0 ≡ getD starts (i + 1) 0 → ⊥) → getD pages (i * pageBytes + 8) 0 ≡ dataType
+  pub at : (i : ℕ) → i < n → (getD starts i 0 ≡ getD starts (i + 1) 0 → ⊥) → getD pages (i * pageBytes + typeAt) 0 ≡ dataType

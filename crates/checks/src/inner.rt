@@ -10,7 +10,7 @@ ghost use Rattle.endian.specs.Pick.{pick};
 ghost use Rattle.wal.specs.Read.{first};
 ghost use Rattle.wal.specs.Walk.{entries, endOf};
 ghost use Rattle.wal.specs.Prefix.{Stands, said};
-ghost use Rattle.page.specs.Layout.{pageBytes, dataType, pagesIn};
+ghost use Rattle.page.specs.Layout.{pageBytes, typeAt, dataType, pagesIn};
 ghost use Rattle.refusals.specs.Verdict.{verdict, accepted};
 ghost use Rattle.rules.specs.Shape.{isShaped};
 ghost use Rattle.rules.specs.Recover.{pagesFrom, isStray, strayFrom};
@@ -31,6 +31,7 @@ use order::inner::is_change;
 use order::inner::walk;
 use page::DATA_TYPE;
 use page::PAGE_BYTES;
+use page::TYPE_AT;
 use page::inner::first_bad;
 use refusals::CLASH;
 use refusals::Verdict;
@@ -113,7 +114,7 @@ fn is_stray(log: &[u8], at: usize, kind: u8, pages: &[u8], n: usize) -> bool
     if n <= i {
         return true;
     }
-    let kind = pages[i * PAGE_BYTES + 8];
+    let kind = pages[i * PAGE_BYTES + TYPE_AT];
     kind != DATA_TYPE
 }
 
@@ -137,12 +138,12 @@ fn first_stray(log: &[u8], end: usize, pages: &[u8], n: usize) -> usize
 // Whether page i is touched and not of type 1.
 fn is_other(pages: &[u8], starts: &[u32; 4097], i: usize) -> bool
     requires { ⌜ (i < pagesIn (now pages)) × (i < 4096) ⌝ }
-    ensures { λ r. ⌜ (r ≡ false → (getD (now (starts .entry)) i 0 ≡ getD (now (starts .entry)) (i + 1) 0 → ⊥) → getD (now (pages .entry)) (i * pageBytes + 8) 0 ≡ dataType) ⌝ }
+    ensures { λ r. ⌜ (r ≡ false → (getD (now (starts .entry)) i 0 ≡ getD (now (starts .entry)) (i + 1) 0 → ⊥) → getD (now (pages .entry)) (i * pageBytes + typeAt) 0 ≡ dataType) ⌝ }
 {
     if starts[i] == starts[i + 1] {
         return false;
     }
-    let kind = pages[i * PAGE_BYTES + 8];
+    let kind = pages[i * PAGE_BYTES + TYPE_AT];
     kind != DATA_TYPE
 }
 

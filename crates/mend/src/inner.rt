@@ -32,6 +32,7 @@ use page::BODY_BYTES;
 use page::HEAD_BYTES;
 use page::PAGE_BYTES;
 use page::PageHead;
+use page::RESERVED_AT;
 use page::inner::id;
 use page::inner::kind;
 use page::inner::lsn;
@@ -144,7 +145,7 @@ fn repack(
     let n = slots_for(page, starts, i);
     let top = fill(work, log, page, starts, i, cells, n);
     let h = head_for(log, page, last);
-    seal(t, work, h, &page[36..64], n, top);
+    seal(t, work, h, &page[RESERVED_AT..HEAD_BYTES], n, top);
 }
 
 // Mends page i in its place: built in a working page first. Says how many pages it rewrote, 0 or 1.

@@ -5,7 +5,6 @@ pub mod Goodness
 pub mod Writing
 pub mod Pasting
 pub mod Packing
-pub mod Parts
 pub mod Listing
 pub mod RowLists
 pub mod Visibility

@@ -1,4 +1,4 @@
--- What the pass by granules keeps, used in this crate alone: a granule is 24 bytes of a body, and two tuples that start in one granule overlap.
+-- Internal: what the pass by granules keeps. A granule is 24 bytes of a body, and two tuples that start in one granule overlap.
 use Prim.Native.Nat.{ℕ, suc, _+_, _/_, _≤_, _<_}
 use mathlib.Core.Path.{_≡_}
 use mathlib.Core.Bool.{true}

@@ -33,19 +33,37 @@ pagesIn s = length s / pageBytes
 abbrev pub pageAt : ℕ → List ℕ → List ℕ
 pageAt i s = part (i * pageBytes) pageBytes s
 
--- ---- the header of a page
+-- ---- the header of a page: where its fields stand, and what they hold
+
+abbrev pub typeAt : ℕ
+typeAt = 8
+
+abbrev pub countAt : ℕ
+countAt = 10
+
+abbrev pub freeStartAt : ℕ
+freeStartAt = 32
+
+abbrev pub freeEndAt : ℕ
+freeEndAt = 34
+
+abbrev pub reservedAt : ℕ
+reservedAt = 36
+
+abbrev pub reservedBytes : ℕ
+reservedBytes = 28
 
 abbrev pub magicOf : List ℕ → ℕ
 magicOf p = numberAt 8 0 p
 
 abbrev pub typeOf : List ℕ → ℕ
-typeOf p = numberAt 1 8 p
+typeOf p = numberAt 1 typeAt p
 
 abbrev pub flagsOf : List ℕ → ℕ
 flagsOf p = numberAt 1 9 p
 
 abbrev pub countOf : List ℕ → ℕ
-countOf p = numberAt 2 10 p
+countOf p = numberAt 2 countAt p
 
 abbrev pub crcOf : List ℕ → ℕ
 crcOf p = numberAt 4 12 p
@@ -57,13 +75,13 @@ abbrev pub lsnOf : List ℕ → ℕ
 lsnOf p = numberAt 8 24 p
 
 abbrev pub freeStartOf : List ℕ → ℕ
-freeStartOf p = numberAt 2 32 p
+freeStartOf p = numberAt 2 freeStartAt p
 
 abbrev pub freeEndOf : List ℕ → ℕ
-freeEndOf p = numberAt 2 34 p
+freeEndOf p = numberAt 2 freeEndAt p
 
 abbrev pub reservedOf : List ℕ → List ℕ
-reservedOf p = part 36 28 p
+reservedOf p = part reservedAt reservedBytes p
 
 abbrev pub bodyOf : List ℕ → List ℕ
 bodyOf p = drop headBytes p

@@ -1,15 +1,12 @@
 -- Internal: what the writer of packed pages leaves in its working page, step by step.
 use Prim.Native.Nat.{ℕ, _+_, _*_, _-_}
-use mathlib.Core.List.{List, [], _∷_, _++_}
-use mathlib.Core.Bool.{Bool, true, false}
-use lib.ListN.{length, getD}
-use lib.Dec.{leb}
+use mathlib.Core.List.{List, _++_}
+use lib.ListN.{length}
 use lib.Seq.{paste}
-use Rattle.endian.specs.Pick.{pick}
-use Rattle.endian.specs.Numbers.{part, bytesOf}
+use Rattle.endian.specs.Numbers.{bytesOf}
 use Rattle.crc32c.specs.Crc.{crc32c}
 use Rattle.page.specs.Layout.{headBytes}
-use Rattle.page.specs.Packed.{Head, slotBytes, tab}
+use Rattle.page.specs.Packed.{Head, slotBytes}
 use Rattle.page.specs.declared.PageHead.{PageHead}
 
 -- w with the four bytes of slot k, and its tuple t, which ends at `top` of the body
@@ -29,18 +26,3 @@ headOf h reserved = record { magic = h .magic; type = h .kind; id = h .id .0; ls
 -- the body b of n slots under its header
 abbrev pub sealed : Head → ℕ → ℕ → List ℕ → List ℕ
 sealed h n end b = frontOf (h .magic) (h .type) n (crc32c b) ++ (backOf (h .id) (h .lsn) n end (h .reserved) ++ b)
-
--- ---- tuples that are given as parts of one list
-
-abbrev pub given : List ℕ → List ℕ → List ℕ → ℕ → List ℕ
-given s places lengths k = part (getD places k 0) (getD lengths k 0) s
-
-abbrev pub givenAll : List ℕ → List ℕ → List ℕ → List (List ℕ)
-givenAll s places lengths = tab (length lengths) (given s places lengths)
-
--- each part lies in a list of `size` bytes, and with a slot each they fit `room` bytes
-unfoldable pub partsFit : ℕ → List ℕ → List ℕ → ℕ → Bool
-partsFit size [] [] room = true
-partsFit size [] (n ∷ ns) room = false
-partsFit size (a ∷ ps) [] room = false
-partsFit size (a ∷ ps) (n ∷ ns) room = pick (leb (a + n) size) (pick (leb (4 + n) room) (partsFit size ps ns (room - (4 + n))) false) false

@@ -5,31 +5,36 @@ ghost use lib.ListN.{length};
 ghost use lib.Seq.{paste};
 ghost use Rattle.crc32c.specs.Crc.{crc32c as crcOfBytes};
 ghost use Rattle.crc32c.specs.Tables.{Tables};
-ghost use Rattle.page.specs.Layout.{pageBytes, bodyBytes, slotLimit, pagesIn, magicOf, typeOf, countOf, idOf, lsnOf, bodyOf, slotOff, slotLen};
+ghost use Rattle.page.specs.Layout.{pageBytes, reservedBytes, bodyBytes, slotLimit, pagesIn, magicOf, typeOf, countOf, idOf, lsnOf, bodyOf, slotOff, slotLen};
 ghost use Rattle.page.specs.Fault.{dataFault, faultOf, faultVerdict, lateOf, pageVerdict, firstBad, sizeWrong, verdictOf};
 ghost use Rattle.endian.specs.Pick.{pick};
 ghost use Rattle.page.specs.Rows.{Listable, visibleRows, firstAt};
 ghost use Rattle.page.specs.FreeMap.{freeBit, onesOf};
-ghost use Rattle.page.specs.Packed.{packed};
-ghost use Rattle.page.specs.Writer.{withSlot, headOf, sealed, givenAll, partsFit};
+ghost use Rattle.page.specs.Writer.{withSlot, headOf, sealed};
 use crate::BODY_BYTES;
+use crate::COUNT_AT;
+use crate::CRC_AT;
 use crate::DATA_TYPE;
+use crate::FREE_END_AT;
+use crate::FREE_START_AT;
 use crate::FREE_TYPE;
 use crate::Fault;
 use crate::HEAD_BYTES;
+use crate::ID_AT;
 use crate::LAST_TYPE;
+use crate::LSN_AT;
+use crate::MAGIC_AT;
 use crate::NextRow;
 use crate::PAGE_BYTES;
 use crate::PAGE_LIMIT;
 use crate::PageHead;
 use crate::SLOT_LIMIT;
+use crate::TYPE_AT;
 use crate::faults::slots_fault;
 use crate::rows::row_on;
 use crate::writer::off_of;
-use crate::writer::parts_fit;
 use crate::writer::put_back;
 use crate::writer::put_front;
-use crate::writer::put_parts;
 use crc32c::inner::Tables;
 use crc32c::inner::crc32c;
 use endian::Lsn;
@@ -54,7 +59,7 @@ pub fn magic(page: &[u8]) -> u64
     requires { ⌜ length (now page) ≡ pageBytes ⌝ }
     ensures { λ r. ⌜ r ≡ magicOf (now (page .entry)) ⌝ }
 {
-    u64_at(page, 0)
+    u64_at(page, MAGIC_AT)
 }
 
 // The page's type.
@@ -62,28 +67,28 @@ pub fn kind(page: &[u8]) -> u8
     requires { ⌜ length (now page) ≡ pageBytes ⌝ }
     ensures { λ r. ⌜ r ≡ typeOf (now (page .entry)) ⌝ }
 {
-    page[8]
+    page[TYPE_AT]
 }
 
 pub fn count(page: &[u8]) -> usize
     requires { ⌜ length (now page) ≡ pageBytes ⌝ }
     ensures { λ r. ⌜ (r ≡ countOf (now (page .entry))) × (r < 65536) ⌝ }
 {
-    u16_at(page, 10) as usize
+    u16_at(page, COUNT_AT) as usize
 }
 
 pub fn id(page: &[u8]) -> PageNumber
     requires { ⌜ length (now page) ≡ pageBytes ⌝ }
     ensures { λ r. ⌜ r .0 ≡ idOf (now (page .entry)) ⌝ }
 {
-    PageNumber(u64_at(page, 16))
+    PageNumber(u64_at(page, ID_AT))
 }
 
 pub fn lsn(page: &[u8]) -> Lsn
     requires { ⌜ length (now page) ≡ pageBytes ⌝ }
     ensures { λ r. ⌜ r .0 ≡ lsnOf (now (page .entry)) ⌝ }
 {
-    Lsn(u64_at(page, 24))
+    Lsn(u64_at(page, LSN_AT))
 }
 
 // Where the tuple of slot k starts, counted from the body's start.
@@ -119,11 +124,11 @@ fn data_fault(page: &[u8]) -> Fault
     if SLOT_LIMIT < n {
         return Fault::Count;
     }
-    let start = u16_at(page, 32) as usize;
+    let start = u16_at(page, FREE_START_AT) as usize;
     if start != 4 * n {
         return Fault::FreeStart;
     }
-    let end = u16_at(page, 34) as usize;
+    let end = u16_at(page, FREE_END_AT) as usize;
     if end < start {
         return Fault::FreeEnd;
     }
@@ -139,17 +144,17 @@ pub fn fault(t: &Tables, magic: u64, index: PageNumber, page: &[u8]) -> Fault
     requires { ⌜ length (now page) ≡ pageBytes ⌝ }
     ensures { λ r. ⌜ r ≡ faultOf magic (index .0) (now (page .entry)) ⌝ }
 {
-    if u64_at(page, 0) != magic {
+    if u64_at(page, MAGIC_AT) != magic {
         return Fault::MagicOrType;
     }
     let k = kind(page);
     if LAST_TYPE < k {
         return Fault::MagicOrType;
     }
-    if u64_at(page, 16) != index.0 {
+    if u64_at(page, ID_AT) != index.0 {
         return Fault::Id;
     }
-    if u32_at(page, 12) != checksum(t, page) {
+    if u32_at(page, CRC_AT) != checksum(t, page) {
         return Fault::Checksum;
     }
     if k != DATA_TYPE {
@@ -304,7 +309,7 @@ pub fn put_slot(work: &mut [u8], k: usize, top: usize, tuple: &[u8]) -> usize
 // Writes the header of the working page over its body of count slots, whose tuples start at top.
 pub fn seal(t: &Tables, work: &mut [u8], h: PageHead, reserved: &[u8], count: usize, top: usize)
     requires { ⌜ Tables (now t) ⌝ }
-    requires { ⌜ (length (now work) ≡ pageBytes) × (length (now reserved) ≡ 28) × (count ≤ slotLimit) × (top ≤ bodyBytes) ⌝ }
+    requires { ⌜ (length (now work) ≡ pageBytes) × (length (now reserved) ≡ reservedBytes) × (count ≤ slotLimit) × (top ≤ bodyBytes) ⌝ }
     ensures { λ _. ⌜ now (work .exit) ≡ sealed (headOf h (now (reserved .entry))) count top (bodyOf (now (work .entry))) ⌝ }
 {
     let crc = checksum(t, work);
@@ -322,32 +327,6 @@ pub fn store(pages: &mut [u8], index: usize, work: &[u8])
     copy_in(&mut pages[a..e], 0, work);
 }
 
-// Writes the packed page of tuples that are parts of one source, and says true; where they do not lie in it or do not fit a page, writes nothing.
-pub fn write_packed(
-    t: &Tables,
-    pages: &mut [u8],
-    index: usize,
-    h: PageHead,
-    reserved: &[u8],
-    source: &[u8],
-    places: &[u64],
-    lengths: &[u64],
-) -> bool
-    requires { ⌜ Tables (now t) ⌝ }
-    requires { ⌜ (index * pageBytes + pageBytes ≤ length (now pages)) × (length (now reserved) ≡ 28) ⌝ }
-    ensures { λ r. ⌜ r ≡ partsFit (length (now (source .entry))) (now (places .entry)) (now (lengths .entry)) bodyBytes ⌝ }
-    ensures { λ r. ⌜ now (pages .exit) ≡ pick r (paste (now (pages .entry)) (index * pageBytes) (packed (headOf h (now (reserved .entry))) (givenAll (now (source .entry)) (now (places .entry)) (now (lengths .entry)))) pageBytes) (now (pages .entry)) ⌝ }
-{
-    if !parts_fit(source.len() as u64, places, lengths) {
-        return false;
-    }
-    let mut work = [0u8; PAGE_BYTES];
-    let top = put_parts(&mut work, source, places, lengths);
-    seal(t, &mut work, h, reserved, lengths.len(), top);
-    store(pages, index, &work);
-    true
-}
-
 // 1 where page i is lent and free, else 0.
 pub fn free_bit(pages: &[u8], i: usize) -> u8
     ensures { λ r. ⌜ (r ≡ freeBit (now (pages .entry)) i) × (r ≤ 1) ⌝ }
@@ -355,7 +334,7 @@ pub fn free_bit(pages: &[u8], i: usize) -> u8
     if pages.len() / PAGE_BYTES <= i {
         return 0;
     }
-    if pages[i * PAGE_BYTES + 8] == FREE_TYPE {
+    if pages[i * PAGE_BYTES + TYPE_AT] == FREE_TYPE {
         return 1;
     }
     0

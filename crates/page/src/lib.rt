@@ -25,6 +25,27 @@ pub const HEAD_BYTES: usize = 64;
 
 pub const BODY_BYTES: usize = 16320;
 
+// Where the fields of a page's header stand.
+const MAGIC_AT: usize = 0;
+
+pub const TYPE_AT: usize = 8;
+
+const FLAGS_AT: usize = 9;
+
+const COUNT_AT: usize = 10;
+
+const CRC_AT: usize = 12;
+
+const ID_AT: usize = 16;
+
+const LSN_AT: usize = 24;
+
+const FREE_START_AT: usize = 32;
+
+const FREE_END_AT: usize = 34;
+
+pub const RESERVED_AT: usize = 36;
+
 // A page area of more pages is refused by 1.
 pub const PAGE_LIMIT: usize = 4096;
 

@@ -1,11 +1,10 @@
-// The page cases: packed pages, a page with each kind of fault, visible rows and a free map.
+// The page cases: a page with each kind of fault, visible rows one by one and many at a time, and a free map.
 ghost use mathlib.Core.Path.{_≡_};
 ghost use lib.ListN.{length};
-use endian::Lsn;
 use endian::PageNumber;
 use page::Fault;
 use page::NextRow;
-use page::PageHead;
+use page::RowList;
 
 const MAGIC: u64 = 0x0123_4567_89AB_CDEF;
 
@@ -20,40 +19,6 @@ fn number(name: &[u8], n: u64) {
 
 // ---- pages
 
-// Sevens, with a 0 where the tuples of the cases have their deleted byte.
-fn source() -> [u8; 16320] {
-    let mut s = [7u8; 16320];
-    s[16] = 0;
-    s[46] = 0;
-    s[87] = 1;
-    s
-}
-
-// Writes the tuples into the page at an index, and says whether they fit.
-fn packed(pages: &mut [u8], index: usize, kind: u8, places: &[u64], lengths: &[u64]) -> bool {
-    if pages.len() < 16384 {
-        return false;
-    }
-    if (pages.len() - 16384) / 16384 < index {
-        return false;
-    }
-    let t = crc32c::inner::tables();
-    let h = PageHead {
-        magic: MAGIC,
-        kind,
-        id: PageNumber(index as u64),
-        lsn: Lsn(9),
-    };
-    page::inner::write_packed(&t, pages, index, h, &[5u8; 28], &source(), places, lengths)
-}
-
-// A page with 30 and 40 bytes in slots 0 and 1.
-fn base() -> [u8; 16384] {
-    let mut p = [0u8; 16384];
-    packed(&mut p, 0, 1, &[0, 30], &[30, 40]);
-    p
-}
-
 // The page with n in the two bytes at a place.
 fn with(mut p: [u8; 16384], at: usize, n: u16) -> [u8; 16384] {
     endian::put_u16(&mut p, at, n);
@@ -65,6 +30,21 @@ fn summed(mut p: [u8; 16384]) -> [u8; 16384] {
     let c = crc32c::crc32c(&p[64..]);
     endian::put_u32(&mut p, 12, c);
     p
+}
+
+// A page of zeros with a type, an id, an item count, free start and free end, and LSN 9.
+fn headed(kind: u16, id: u16, count: u16, start: u16, end: u16) -> [u8; 16384] {
+    let mut p = [0u8; 16384];
+    endian::put_u64(&mut p, 0, MAGIC);
+    let q = with(with(p, 8, kind), 10, count);
+    let r = with(with(q, 16, id), 24, 9);
+    with(with(r, 32, start), 34, end)
+}
+
+// A page with 30 and 40 bytes in slots 0 and 1.
+fn base() -> [u8; 16384] {
+    let p = with(with(headed(1, 0, 2, 8, 16250), 64, 16290), 66, 30);
+    summed(with(with(p, 68, 16250), 70, 40))
 }
 
 // ---- what is seen
@@ -94,40 +74,6 @@ fn judge(name: &[u8], p: &[u8; 16384]) {
     word(b"\n");
 }
 
-fn show_slot(p: &[u8; 16384], k: usize) {
-    if 4080 <= k {
-        return;
-    }
-    if k < page::inner::count(p) {
-        number(b" (", page::inner::slot_off(p, k) as u64);
-        number(b", ", page::inner::slot_len(p, k) as u64);
-        word(b")");
-    }
-}
-
-fn show_head(p: &[u8; 16384]) {
-    number(b": count ", page::inner::count(p) as u64);
-    number(b", free ", endian::u16_at(p, 32) as u64);
-    number(b" to ", endian::u16_at(p, 34) as u64);
-    word(b", checksum ");
-    io::print_hex(1, endian::u32_at(p, 12) as u64, 8);
-}
-
-// A page that was written, with its first two slots, and the verdict on it.
-fn show(name: &[u8], fits: bool, p: &[u8; 16384]) {
-    word(name);
-    if !fits {
-        word(b": does not fit\n");
-        return;
-    }
-    show_head(p);
-    word(b", slots");
-    show_slot(p, 0);
-    show_slot(p, 1);
-    word(b"\n");
-    judge(name, p);
-}
-
 // ---- the cases
 
 // The page with n in two bytes of its header.
@@ -140,29 +86,6 @@ fn changed(name: &[u8], at: usize, n: u16) {
 fn changed_body(name: &[u8], at: usize, n: u16) {
     let p = summed(with(base(), at, n));
     judge(name, &p);
-}
-
-fn packed_case(name: &[u8], places: &[u64], lengths: &[u64]) {
-    let mut p = [0u8; 16384];
-    let fits = packed(&mut p, 0, 1, places, lengths);
-    show(name, fits, &p);
-}
-
-// 4 bytes a slot and 24 a tuple, but 48 the last: 16,320 bytes.
-fn full_page() {
-    let places = [0u64; 582];
-    let mut lengths = [24u64; 582];
-    lengths[581] = 48;
-    packed_case(b"582 tuples that fill the page", &places, &lengths);
-}
-
-fn packed_cases() {
-    packed_case(b"30 and 40 bytes", &[0, 30], &[30, 40]);
-    packed_case(b"16316 bytes in slot 0", &[0], &[16316]);
-    packed_case(b"16312 bytes in slot 1", &[0, 0], &[0, 16312]);
-    packed_case(b"16313 bytes in slot 1", &[0, 0], &[0, 16313]);
-    full_page();
-    packed_case(b"a part past the source", &[16300], &[24]);
 }
 
 fn header_cases() {
@@ -225,12 +148,24 @@ fn pair_cases() {
 
 // ---- areas
 
-// Rows, a deleted row and an empty slot; a free page; a row. The rest is zero.
+// A deleted row of 24 bytes, an empty slot, rows of 30 and 40 bytes.
+fn rows_page() -> [u8; 16384] {
+    let p = with(with(headed(1, 0, 4, 16, 16226), 64, 16296), 66, 24);
+    let q = with(with(p, 72, 16266), 74, 30);
+    summed(with(with(with(q, 76, 16226), 78, 40), 16376, 1))
+}
+
+// One row of 100 bytes.
+fn row_page() -> [u8; 16384] {
+    summed(with(with(headed(1, 2, 1, 4, 16220), 64, 16220), 66, 100))
+}
+
+// Rows; a free page; a row.
 fn area() -> [u8; 49152] {
     let mut a = [0u8; 49152];
-    packed(&mut a, 0, 1, &[71, 0, 0, 30], &[24, 0, 30, 40]);
-    packed(&mut a, 1, 4, &[0], &[24]);
-    packed(&mut a, 2, 1, &[0], &[100]);
+    page::inner::store(&mut a, 0, &rows_page());
+    page::inner::store(&mut a, 1, &summed(headed(4, 1, 0, 0, 16320)));
+    page::inner::store(&mut a, 2, &row_page());
     a
 }
 
@@ -249,6 +184,44 @@ fn show_row(pages: &[u8], i: u64, k: usize) {
         NextRow::NoMore => word(b": none"),
     }
     word(b"\n");
+}
+
+fn show_at(s: &[u64], j: usize) {
+    if j < s.len() {
+        number(b" ", s[j]);
+    }
+}
+
+// The first seven of some numbers.
+fn show_seven(s: &[u64]) {
+    show_at(s, 0);
+    show_at(s, 1);
+    show_at(s, 2);
+    show_at(s, 3);
+    show_at(s, 4);
+    show_at(s, 5);
+    show_at(s, 6);
+    word(b"\n");
+}
+
+fn show_answer(i: u64, k: usize, l: RowList) {
+    let v = l.verdict;
+    let next = l.page;
+    number(b"list from ", i);
+    number(b", ", k as u64);
+    number(b": ", v.number);
+    number(b" at ", v.place);
+    number(b", rows ", l.count as u64);
+    number(b", on from ", next.0);
+    number(b", ", l.slot as u64);
+    word(b":");
+}
+
+// What a listing gives back, and the numbers that it was lent.
+fn show_list(pages: &[u8], i: u64, k: usize, rows: &mut [u64]) {
+    let l = page::list_visible(MAGIC, pages, PageNumber(i), k, rows);
+    show_answer(i, k, l);
+    show_seven(rows);
 }
 
 fn show_map(name: &[u8], pages: &[u8], map: &mut [u8]) {
@@ -278,6 +251,18 @@ fn row_cases(a: &[u8])
     show_row(&a[0..0], 0, 0);
 }
 
+fn list_cases(a: &[u8])
+    requires { ⌜ length (now a) ≡ 49152 ⌝ }
+{
+    show_list(a, 0, 0, &mut [9u64; 7]);
+    show_list(a, 2, 0, &mut [9u64; 7]);
+    show_list(a, 0, 3, &mut [9u64; 6]);
+    show_list(a, 2, 1, &mut [9u64; 3]);
+    show_list(a, 0, 0, &mut [9u64; 2]);
+    show_list(a, 1, 0, &mut [9u64; 0]);
+    show_list(&a[16384..], 0, 0, &mut [9u64; 3]);
+}
+
 fn map_cases(a: &[u8])
     requires { ⌜ length (now a) ≡ 49152 ⌝ }
 {
@@ -289,11 +274,11 @@ fn map_cases(a: &[u8])
 }
 
 fn main() {
-    packed_cases();
     header_cases();
     slot_cases();
     pair_cases();
     let a = area();
     row_cases(&a);
+    list_cases(&a);
     map_cases(&a);
 }

@@ -1,4 +1,5 @@
-//! Verification of 4,096 pages of 80 rows each, beside the checksum alone on the same bytes, in one run.
+//! Verification of 4,096 pages of 80 and of 560 rows, beside the checksum alone on the same bytes, with tuples in packed,
+//! falling and shuffled order; and the listing of all rows through the C interface beside one verification.
 use bench::best;
 use std::hint::black_box;
 
@@ -12,7 +13,15 @@ const PAGE: usize = 16_384;
 const HEAD: usize = 64;
 const BODY: usize = 16_320;
 const PAGES: usize = 4_096;
-const ROWS: usize = 80;
+
+/// Rows of a page, and lengths of a row: from 24 on, so many.
+const ORDINARY: (usize, u64) = (80, 177);
+const MANY: (usize, u64) = (560, 2);
+
+/// What the times of a verification in falling order, in terms of packed order, and of a listing, in terms of a
+/// verification, should stay under.
+const FALLING_BOUND: f64 = 1.5;
+const LISTING_BOUND: f64 = 2.0;
 
 /// The checksums of all whole pieces, mixed.
 fn checksums(s: &[u8], piece: usize) -> u32 {
@@ -36,12 +45,36 @@ impl Numbers {
     }
 }
 
-/// A good page of 80 rows, whose slots name the tuples in the given order.
-fn page(index: usize, order: &[usize; ROWS], numbers: &mut Numbers) -> Vec<u8> {
+/// The order of a page's tuples from the body's end on, by their slots.
+#[derive(Clone, Copy)]
+enum Order {
+    Packed,
+    Falling,
+    Shuffled,
+}
+
+impl Order {
+    fn slots(self, rows: usize, numbers: &mut Numbers) -> Vec<usize> {
+        let mut slots: Vec<usize> = (0..rows).collect();
+        match self {
+            Order::Packed => {}
+            Order::Falling => slots.reverse(),
+            Order::Shuffled => {
+                for k in (1..rows).rev() {
+                    slots.swap(k, (numbers.next() % (k as u64 + 1)) as usize);
+                }
+            }
+        }
+        slots
+    }
+}
+
+/// A good page whose slots name the tuples in the given order.
+fn page(index: usize, slots: &[usize], lengths: u64, numbers: &mut Numbers) -> Vec<u8> {
     let mut p = vec![0u8; PAGE];
     let mut top = BODY;
-    for &slot in order {
-        let n = 24 + (numbers.next() % 177) as usize;
+    for &slot in slots {
+        let n = 24 + (numbers.next() % lengths) as usize;
         top -= n;
         for byte in &mut p[HEAD + top + 24..HEAD + top + n] {
             *byte = numbers.next() as u8;
@@ -52,49 +85,84 @@ fn page(index: usize, order: &[usize; ROWS], numbers: &mut Numbers) -> Vec<u8> {
     }
     p[0..8].copy_from_slice(&MAGIC.to_le_bytes());
     p[8] = 1;
-    p[10..12].copy_from_slice(&(ROWS as u16).to_le_bytes());
+    p[10..12].copy_from_slice(&(slots.len() as u16).to_le_bytes());
     p[16..24].copy_from_slice(&(index as u64).to_le_bytes());
-    p[32..34].copy_from_slice(&(4 * ROWS as u16).to_le_bytes());
+    p[32..34].copy_from_slice(&(4 * slots.len() as u16).to_le_bytes());
     p[34..36].copy_from_slice(&(top as u16).to_le_bytes());
     let crc = checksums(&p[HEAD..], BODY);
     p[12..16].copy_from_slice(&crc.to_le_bytes());
     p
 }
 
-fn area(shuffled: bool) -> Vec<u8> {
+fn area((rows, lengths): (usize, u64), order: Order) -> Vec<u8> {
     let mut numbers = Numbers(1);
     let mut pages = Vec::with_capacity(PAGES * PAGE);
     for index in 0..PAGES {
-        let mut order: [usize; ROWS] = std::array::from_fn(|k| k);
-        if shuffled {
-            for k in (1..ROWS).rev() {
-                order.swap(k, (numbers.next() % (k as u64 + 1)) as usize);
-            }
-        }
-        pages.extend(page(index, &order, &mut numbers));
+        let slots = order.slots(rows, &mut numbers);
+        pages.extend(page(index, &slots, lengths, &mut numbers));
     }
     pages
 }
 
-fn main() {
-    println!("{PAGES} pages of {ROWS} rows, best of 5, GB/s (time in terms of the checksum's)");
+fn bound(ratio: f64, most: f64) -> String {
+    let met = if ratio <= most { "within" } else { "OVER" };
+    format!("{ratio:.2}x, {met} {most:.1}x")
+}
+
+/// Seconds for a verification.
+fn verification(name: &str, sort: (usize, u64), order: Order) -> f64 {
+    let mut pages = area(sort, order);
+    assert_eq!(verify(&pages), 0, "{name}: a good page is refused");
+    let bytes = pages.len() as f64;
+    let c = best(5, || checksums(black_box(&pages), BODY));
+    let v = best(5, || verify(black_box(&pages)));
     println!(
-        "{:>16}  {:>10}  {:>16}",
-        "tuples", "checksum", "verification"
+        "{:>6}  {name:>12}  {:>10.2}  {:>16}  {:>10.2}",
+        sort.0,
+        bytes / c / 1e9,
+        format!("{:.2} ({:.2}x)", bytes / v / 1e9, v / c),
+        v * 1e6 / PAGES as f64
     );
-    for (name, shuffled) in [("packed order", false), ("shuffled", true)] {
-        let mut pages = area(shuffled);
-        assert_eq!(verify(&pages), 0, "{name}: a good page is refused");
-        let bytes = pages.len() as f64;
-        let c = best(5, || checksums(black_box(&pages), BODY));
-        let v = best(5, || verify(black_box(&pages)));
+    let last = pages.len() - 1;
+    pages[last] ^= 1;
+    assert_ne!(verify(&pages), 0, "{name}: a changed byte is accepted");
+    v
+}
+
+/// All rows through the C interface in one listing, beside one verification through it.
+fn listing() {
+    let pages = area(ORDINARY, Order::Packed);
+    let total = PAGES * ORDINARY.0;
+    let mut rows = vec![0u64; total * library::ROW_NUMBERS];
+    let v = best(5, || library::verify(MAGIC, black_box(&pages)).number);
+    let l = best(5, || {
+        library::list_visible(MAGIC, black_box(&pages), 0, 0, &mut rows).count
+    });
+    let listed = library::list_visible(MAGIC, &pages, 0, 0, &mut rows);
+    assert_eq!((listed.count, listed.page), (total as u64, PAGES as u64));
+    println!(
+        "listing {total} rows: {:.2} ms, one verification {:.2} ms: {}",
+        l * 1e3,
+        v * 1e3,
+        bound(l / v, LISTING_BOUND)
+    );
+}
+
+fn main() {
+    println!("verification of {PAGES} pages, best of 5, GB/s (time in terms of the checksum's)");
+    println!(
+        "{:>6}  {:>12}  {:>10}  {:>16}  {:>10}",
+        "rows", "tuples", "checksum", "verification", "µs a page"
+    );
+    for sort in [ORDINARY, MANY] {
+        let packed = verification("packed", sort, Order::Packed);
+        let falling = verification("falling", sort, Order::Falling);
+        verification("shuffled", sort, Order::Shuffled);
         println!(
-            "{name:>16}  {:>10.2}  {:>16}",
-            bytes / c / 1e9,
-            format!("{:.2} ({:.2}x)", bytes / v / 1e9, v / c)
+            "{:>6}  falling in terms of packed: {}",
+            sort.0,
+            bound(falling / packed, FALLING_BOUND)
         );
-        let last = pages.len() - 1;
-        pages[last] ^= 1;
-        assert_eq!(verify(&pages), 11, "{name}: a changed byte is accepted");
     }
+    listing();
 }

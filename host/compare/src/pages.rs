@@ -11,6 +11,10 @@ use crate::twin;
 const MAP_MARK: u8 = 0xA5;
 const MAP_EDGE: u8 = 0x3C;
 
+/// The same of the numbers that are lent for rows.
+const ROW_MARK: u64 = 0xA5A5_A5A5_A5A5_A5A5;
+const ROW_EDGE: u64 = 0x3C3C_3C3C_3C3C_3C3C;
+
 pub(crate) fn compare(subject: &mut Subject, seen: &mut Seen) {
     let case = subject.case;
     let library = library::verify(case.magic, &case.pages);
@@ -28,6 +32,7 @@ pub(crate) fn compare(subject: &mut Subject, seen: &mut Seen) {
     };
     if rows {
         visible_rows(subject, seen);
+        listings(subject, seen);
     }
     if maps {
         free_maps(subject, seen);
@@ -71,6 +76,52 @@ fn visible_rows(subject: &mut Subject, seen: &mut Seen) {
             true => next(subject.rng.below(6), u16::MAX),
             false => next(subject.rng.number(), subject.rng.below(5_000) as u16),
         };
+    }
+}
+
+/// Listings from the asked place and from the first row on, into numbers for a few rows, which are gone through to the
+/// end or for some steps.
+fn listings(subject: &mut Subject, seen: &mut Seen) {
+    let case = subject.case;
+    let length = subject.rng.size(0, 40);
+    let steps = match (subject.light, case.seed % 16) {
+        (true, 0) => 100,
+        (true, _) => 2,
+        (false, _) => 1,
+    };
+    for start in [(case.page, case.slot), (0, 0)] {
+        let mut from = start;
+        for _ in 0..steps {
+            let before = vec![ROW_MARK; length];
+            let mut lent = Lent::new(&before, 0, ROW_EDGE);
+            let library =
+                library::list_visible(case.magic, &case.pages, from.0, from.1, lent.items());
+            let (left, edges_kept) = lent.taken_back();
+            let mut expected = before;
+            let oracle = twin::listing(oracle::list_visible(
+                case.magic,
+                &case.pages,
+                from.0,
+                from.1,
+                &mut expected,
+            ));
+            seen.answers(
+                "list_visible",
+                library.number,
+                format_args!("from page {} slot {} into {length} numbers", from.0, from.1),
+                &library,
+                &oracle,
+            );
+            seen.items(format_args!("{length} numbers of rows"), &left, &expected);
+            seen.must(edges_kept, || {
+                format!("list_visible wrote outside of {length} numbers")
+            });
+            if library.count == 0 || library.page == (case.pages.len() / PAGE_BYTES) as u64 {
+                break;
+            }
+            seen.event("listing that goes on");
+            from = (library.page, library.slot as u16);
+        }
     }
 }
 

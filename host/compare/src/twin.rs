@@ -50,6 +50,16 @@ pub fn visible(of: oracle::Visible) -> library::Visible {
     }
 }
 
+pub fn listing(of: oracle::Listing) -> library::Listing {
+    library::Listing {
+        number: of.number,
+        place: of.place,
+        count: of.count,
+        page: of.page,
+        slot: of.slot,
+    }
+}
+
 pub fn free_map(of: oracle::FreeMap) -> library::FreeMap {
     library::FreeMap {
         number: of.number,

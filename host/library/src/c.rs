@@ -44,6 +44,17 @@ extern "C" {
         out: *mut u64,
     );
 
+    pub fn lq_list_visible(
+        magic: u64,
+        pages: *const u8,
+        len: usize,
+        page: u64,
+        slot: u16,
+        rows: *mut u64,
+        rows_len: usize,
+        out: *mut u64,
+    );
+
     pub fn lq_free_map(
         magic: u64,
         pages: *const u8,

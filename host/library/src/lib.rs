@@ -22,6 +22,9 @@ pub const SHORTEST_ENTRY_BYTES: usize = 43;
 /// How many numbers of a lent table make one record.
 pub const RECORD_NUMBERS: usize = 4;
 
+/// How many numbers of a listing make one row.
+pub const ROW_NUMBERS: usize = 3;
+
 /// Kinds of a step: an entry; forward the exact end, backward none; a torn tail; damage.
 pub const STEP_ENTRY: u64 = 0;
 pub const STEP_END: u64 = 1;
@@ -85,6 +88,17 @@ numbers! {
 }
 
 numbers! {
+    /// How many rows a listing gave, and where the first row stands that found no room: behind the last page where all
+    /// were given.
+    Listing: 5 { number, place, count, page, slot }
+}
+
+numbers! {
+    /// A row of a listing: where it stands, and its tuple's length.
+    Listed: 3 { page, slot, length }
+}
+
+numbers! {
     /// How many pages are free.
     FreeMap: 3 { number, place, free }
 }
@@ -108,7 +122,7 @@ macro_rules! verdicts {
     };
 }
 
-verdicts! { Answer Row Visible FreeMap }
+verdicts! { Answer Row Visible Listing FreeMap }
 
 impl Row {
     /// The payload as a part of what was lent.
@@ -202,6 +216,29 @@ pub fn read_row(magic: u64, floor: u64, pages: &[u8], log: &[u8], page: u64, slo
 /// The first visible row at or after a slot of a page, or none. Refuses 1 and 11.
 pub fn next_visible(magic: u64, pages: &[u8], page: u64, slot: u16) -> Visible {
     filled(|out| unsafe { c::lq_next_visible(magic, pages.as_ptr(), pages.len(), page, slot, out) })
+}
+
+/// Fills the numbers with visible rows from a slot of a page on, three numbers a row, read by `listed`. Refuses 1 and 11;
+/// the numbers then stay.
+pub fn list_visible(magic: u64, pages: &[u8], page: u64, slot: u16, rows: &mut [u64]) -> Listing {
+    filled(|out| unsafe {
+        c::lq_list_visible(
+            magic,
+            pages.as_ptr(),
+            pages.len(),
+            page,
+            slot,
+            rows.as_mut_ptr(),
+            rows.len(),
+            out,
+        )
+    })
+}
+
+/// The rows that numbers hold.
+pub fn listed(rows: &[u64]) -> impl Iterator<Item = Listed> + '_ {
+    rows.chunks_exact(ROW_NUMBERS)
+        .map(|row| Listed::from([row[0], row[1], row[2]]))
 }
 
 /// Writes one bit a page, 1 for a free one. Refuses 1, 11 and 16; the map then keeps what it holds.

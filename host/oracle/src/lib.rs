@@ -12,7 +12,9 @@ mod recovery;
 mod row;
 
 pub use crc::crc32c;
-pub use listing::{free_map, next_visible, verify, FreeMap, Verdict, Visible};
+pub use listing::{
+    free_map, list_visible, next_visible, verify, FreeMap, Listing, Verdict, Visible,
+};
 pub use log::{backward, forward, log_open, EntryFields, Step};
 pub use recovery::{recover, Answer, Record};
 pub use row::{read_row, Row};

@@ -24,6 +24,16 @@ pub struct Visible {
     pub length: u64,
 }
 
+/// How many rows were listed, and where the first row stands that found no room.
+#[derive(Clone, Copy, Debug, PartialEq, Eq, Default)]
+pub struct Listing {
+    pub number: u64,
+    pub place: u64,
+    pub count: u64,
+    pub page: u64,
+    pub slot: u64,
+}
+
 /// How many pages are free.
 #[derive(Clone, Copy, Debug, PartialEq, Eq, Default)]
 pub struct FreeMap {
@@ -47,6 +57,11 @@ pub fn verify(magic: u64, pages: &[u8]) -> Verdict {
     }
 }
 
+/// Whether the tuple that starts here is a visible row.
+fn is_visible(tuple: &[u8]) -> bool {
+    tuple[16] == 0
+}
+
 /// The first row on a page of type 1 at or after a (page, slot) with deleted
 /// byte 0, in that order, with its page, slot and tuple length, or none.
 pub fn next_visible(magic: u64, pages: &[u8], page: u64, slot: u16) -> Visible {
@@ -68,7 +83,7 @@ pub fn next_visible(magic: u64, pages: &[u8], page: u64, slot: u16) -> Visible {
             let Some((at, length)) = tuple_in_slot(own, candidate) else {
                 continue;
             };
-            if own[at + 16] == 0 {
+            if is_visible(&own[at..]) {
                 return Visible {
                     number: 0,
                     place: 0,
@@ -81,6 +96,47 @@ pub fn next_visible(magic: u64, pages: &[u8], page: u64, slot: u16) -> Visible {
         }
     }
     Visible::default()
+}
+
+/// Visible rows from a (page, slot) on, three numbers each: page, slot, tuple length, as many as fit. Says how many, and
+/// the place of the next one, or the count of pages and 0 where there is none.
+pub fn list_visible(magic: u64, pages: &[u8], page: u64, slot: u16, rows: &mut [u64]) -> Listing {
+    if let Err(Refusal { number, place }) = check(magic, pages) {
+        return Listing {
+            number,
+            place,
+            ..Listing::default()
+        };
+    }
+    let mut answer = Listing {
+        page: (pages.len() / PAGE_BYTES) as u64,
+        ..Listing::default()
+    };
+    let mut room = rows.chunks_exact_mut(3);
+    for (index, own) in pages.chunks_exact(PAGE_BYTES).enumerate() {
+        if page_type(own) != DATA {
+            continue;
+        }
+        for candidate in 0..item_count(own) {
+            if (index as u64, candidate) < (page, slot as usize) {
+                continue;
+            }
+            let Some((at, length)) = tuple_in_slot(own, candidate) else {
+                continue;
+            };
+            if !is_visible(&own[at..]) {
+                continue;
+            }
+            let Some(row) = room.next() else {
+                answer.page = index as u64;
+                answer.slot = candidate as u64;
+                return answer;
+            };
+            row.copy_from_slice(&[index as u64, candidate as u64, length as u64]);
+            answer.count += 1;
+        }
+    }
+    answer
 }
 
 /// Bit i, lowest bit first, is 1 exactly if page i has type 4; whole needed

@@ -37,6 +37,7 @@ fn names_and_numbers_are_the_same() {
         ("PAGE_LIMIT", library::PAGE_LIMIT as u64),
         ("LOG_LIMIT_BYTES", library::LOG_LIMIT_BYTES as u64),
         ("RECORD_NUMBERS", library::RECORD_NUMBERS as u64),
+        ("ROW_NUMBERS", library::ROW_NUMBERS as u64),
         ("STEP_ENTRY", library::STEP_ENTRY),
         ("STEP_END", library::STEP_END),
         ("STEP_TORN", library::STEP_TORN),

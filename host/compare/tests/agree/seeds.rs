@@ -14,11 +14,12 @@ use crate::{assert_no_differences, tell};
 const SEEDS: Range<u64> = 0..20_000;
 
 /// The calls that refuse by the paper's numbers.
-const REFUSING: [&str; 6] = [
+const REFUSING: [&str; 7] = [
     "recover",
     "read_row",
     "verify",
     "next_visible",
+    "list_visible",
     "free_map",
     "log_open",
 ];
@@ -87,6 +88,7 @@ fn both_programs_agree_on_every_seed() {
         seen,
         &[
             ("visible row", 20_000),
+            ("listing that goes on", 2_000),
             ("row from the log", 5_000),
             ("row from the pages", 5_000),
             ("empty slot", 3_000),

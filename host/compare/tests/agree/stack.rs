@@ -33,6 +33,10 @@ fn call_everything() {
     assert_eq!(library::log_backward(&log, log.len() as u64).entry_type, 2);
     assert_eq!(library::verify(MAGIC, &pages).number, 0);
     assert_eq!(library::next_visible(MAGIC, &pages, 299, 80).found, 0);
+    assert_eq!(
+        library::list_visible(MAGIC, &pages, 299, 80, &mut [0; 3]).count,
+        0
+    );
     assert_eq!(library::free_map(MAGIC, &pages, &mut [0; 38]).free, 0);
     let row = library::read_row(MAGIC, 0, &pages, &log, 299, 900);
     assert_eq!(row.payload(&pages, &log), b"late");

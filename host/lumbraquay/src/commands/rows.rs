@@ -1,9 +1,6 @@
-//! `rows`: every visible row.
-//!
-//! The library's own listing checks all pages at every step, so a walk over a large file would take hours. Here it checks
-//! them once, and the slots of good pages are read as they stand; the tests compare that with the library's walk.
+//! `rows`: every visible row, as the library lists them.
 
-use library::PAGE_BYTES;
+use library::{Listed, PAGE_BYTES, ROW_NUMBERS};
 
 use crate::advice::unless_refused;
 use crate::args::{Choice, Command, Parsed, JSON, MAGIC};
@@ -12,6 +9,7 @@ use crate::input::{head_fields, Pages, Read};
 use crate::json::Json;
 use crate::output::Output;
 use crate::show;
+use crate::tuple::{self, Tuple};
 
 pub const COMMAND: Command = Command {
     name: "rows",
@@ -30,49 +28,35 @@ pub const COMMAND: Command = Command {
 /// How many letters of a payload stand in a line of text.
 const SHOWN: usize = 60;
 
+/// How many rows are asked for at a time: the library checks all pages for each listing.
+const AT_ONCE: usize = 65_536;
+
 /// A visible row.
 struct Row<'a> {
-    page: usize,
-    slot: usize,
-    tuple: &'a [u8],
+    at: Listed,
+    tuple: Tuple<'a>,
 }
 
-impl Row<'_> {
-    fn number(&self, at: usize) -> u64 {
-        let bytes = self.tuple[at..].first_chunk();
-        bytes.map_or(0, |bytes| u64::from_le_bytes(*bytes))
-    }
-
-    fn xmin(&self) -> u64 {
-        self.number(0)
-    }
-
-    fn xmax(&self) -> u64 {
-        self.number(8)
-    }
-
-    fn payload(&self) -> &[u8] {
-        &self.tuple[24..]
-    }
-}
-
-/// The visible rows of pages that are all good, in order.
-fn visible(pages: &[u8]) -> impl Iterator<Item = Row<'_>> {
-    let data = pages
-        .chunks_exact(PAGE_BYTES)
-        .enumerate()
-        .filter(|(_, page)| page[8] == 1);
-    data.flat_map(|(index, page)| {
-        let number = |at: usize| usize::from(u16::from_le_bytes([page[at], page[at + 1]]));
-        (0..number(10)).filter_map(move |slot| {
-            let (offset, length) = (number(64 + 4 * slot), number(64 + 4 * slot + 2));
-            let tuple = &page[64 + offset..][..length];
-            (length > 0 && tuple[16] == 0).then_some(Row {
-                page: index,
-                slot,
-                tuple,
-            })
-        })
+/// The visible rows of pages that are all good, in order, from a page on.
+fn visible(pages: &Pages, first: u64) -> impl Iterator<Item = Row<'_>> {
+    let end = (pages.bytes.len() / PAGE_BYTES) as u64;
+    let mut from = (first, 0);
+    let lists = std::iter::from_fn(move || {
+        if from.0 >= end {
+            return None;
+        }
+        let mut numbers = vec![0; ROW_NUMBERS * AT_ONCE];
+        let list = library::list_visible(pages.magic, &pages.bytes, from.0, from.1, &mut numbers);
+        if list.number != 0 {
+            return None;
+        }
+        from = (list.page, list.slot as u16);
+        let rows = library::listed(&numbers).take(list.count as usize);
+        Some(rows.collect::<Vec<Listed>>())
+    });
+    lists.flatten().filter_map(|at| {
+        let page = &pages.bytes[at.page as usize * PAGE_BYTES..][..PAGE_BYTES];
+        tuple::in_slot(page, at.slot as usize).map(|tuple| Row { at, tuple })
     })
 }
 
@@ -85,8 +69,8 @@ fn run(parsed: &Parsed, output: &mut Output) -> Result<(), Failure> {
     unless_refused(parsed, output, verdict, Read::pages(&pages))?;
     super::must_have_page(parsed, output, &pages, only)?;
 
-    let rows = visible(&pages.bytes)
-        .filter(|row| only.is_none_or(|page| page == row.page as u64))
+    let rows = visible(&pages, only.unwrap_or(0))
+        .take_while(|row| only.is_none_or(|page| page == row.at.page))
         .take(limit);
     if parsed.flag("--json") {
         let mut fields = head_fields(parsed, "done", verdict);
@@ -104,25 +88,25 @@ fn run(parsed: &Parsed, output: &mut Output) -> Result<(), Failure> {
         listed += 1;
         output.line(format_args!(
             "{:>6}  {:>5}  {:>6}  {:>8}  {:>8}  {}",
-            row.page,
-            row.slot,
-            row.tuple.len(),
-            row.xmin(),
-            row.xmax(),
-            show::payload(row.payload(), SHOWN)
+            row.at.page,
+            row.at.slot,
+            row.at.length,
+            row.tuple.xmin(),
+            row.tuple.xmax(),
+            show::payload(row.tuple.payload(), SHOWN)
         ))?;
     }
     output.line(show::count(listed, "visible row", "visible rows"))
 }
 
 fn row_fields(row: &Row) -> Json {
-    let payload = row.payload();
+    let payload = row.tuple.payload();
     Json::Object(vec![
-        ("page", row.page.into()),
-        ("slot", row.slot.into()),
-        ("length", row.tuple.len().into()),
-        ("xmin", row.xmin().into()),
-        ("xmax", row.xmax().into()),
+        ("page", row.at.page.into()),
+        ("slot", row.at.slot.into()),
+        ("length", row.at.length.into()),
+        ("xmin", row.tuple.xmin().into()),
+        ("xmax", row.tuple.xmax().into()),
         ("payload", Json::text(show::hex(payload))),
         (
             "text",
