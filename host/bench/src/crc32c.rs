@@ -6,6 +6,9 @@ extern "C" {
     fn timed_crc32c(s: *const u8, len: usize, piece: usize) -> u32;
 }
 
+/// Enough of them that some are not disturbed.
+const PASSES: usize = 21;
+
 /// The proved checksums of all whole pieces, mixed; the tables are made once, as inside the library.
 fn proved_pieces(s: &[u8], piece: usize) -> u32 {
     unsafe { timed_crc32c(s.as_ptr(), s.len(), piece) }
@@ -26,7 +29,7 @@ fn main() {
             (x >> 56) as u8
         })
         .collect();
-    println!("CRC32c over 16 MiB, best of 7, GB/s (ratio to eight tables)");
+    println!("CRC32c over 16 MiB, best of {PASSES}, GB/s (ratio to eight tables)");
     println!(
         "{:>10}  {:>10}  {:>12}  {:>15}  {:>15}",
         "piece", "one table", "eight tables", "proved", "machine's crc32"
@@ -41,10 +44,10 @@ fn main() {
         assert_eq!(pieces(&data, piece, bytewise), expected);
         assert_eq!(pieces(&data, piece, sliced), expected);
         let bytes = (size / piece * piece) as f64;
-        let b = best(7, || pieces(black_box(&data), piece, bytewise));
-        let e = best(7, || pieces(black_box(&data), piece, sliced));
-        let p = best(7, || proved_pieces(black_box(&data), piece));
-        let m = best(7, || pieces(black_box(&data), piece, machine));
+        let b = best(PASSES, || pieces(black_box(&data), piece, bytewise));
+        let e = best(PASSES, || pieces(black_box(&data), piece, sliced));
+        let p = best(PASSES, || proved_pieces(black_box(&data), piece));
+        let m = best(PASSES, || pieces(black_box(&data), piece, machine));
         let rate = |t: f64| bytes / t / 1e9;
         let show = |t: f64| format!("{:.2} ({:.2}x)", rate(t), e / t);
         println!(
@@ -55,6 +58,6 @@ fn main() {
             show(m)
         );
     }
-    let none = best(7, || proved_pieces(black_box(&[]), 1));
+    let none = best(PASSES, || proved_pieces(black_box(&[]), 1));
     println!("making the proved tables: {:.1} microseconds", none * 1e6);
 }
