@@ -120,6 +120,10 @@ piece s i n c r e =
     ∙ ap (fed c) (take-append-drop n (drop i s))
 
 -- the steps of the code, from the sums of their parts
+pub step-2 : (s : List ℕ) (i c r : ℕ) → Bytes s → i + 2 ≤ length s → r ≡ shifts 16 (bitXor c (numberAt 2 i s)) → fed r (drop (i + 2) s) ≡ fed c (drop i s)
+unfolding shifts
+step-2 s i c r b h e = piece s i 2 c r (e ∙ run-at s i 2 0 c b h)
+
 pub step-4 : (s : List ℕ) (i c r : ℕ) → r ≡ shifts 0 (fed c (take 4 (drop i s))) → fed r (drop (i + 4) s) ≡ fed c (drop i s)
 unfolding shifts
 step-4 s i c r e = piece s i 4 c r e

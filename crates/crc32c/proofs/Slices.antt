@@ -36,11 +36,20 @@ sliced k (suc n) j x =
     ∙ ap₂ bitXor (ap (shifts (8 * (k + n))) (shr-shr x (8 * j) 8 ∙ ap (λ (m : ℕ). x / 2 ^ m) f) ∙ sliced k n (suc j) x)
     (ap (λ (m : ℕ). shifts m (y % 256)) (sym e))
 
--- four bytes of a number, as the code looks them up
-pub looked : (k x a b c d : ℕ) → x < 2 ^ 32 → a ≡ shifts (8 * (k + 1)) (x / 2 ^ 24 % 256) → b ≡ shifts (8 * (k + 1 + 1)) (x / 2 ^ 16 % 256)
+-- one, two and four bytes of a number, as the code looks them up: all of it, or with what stands above them
+pub looked-1 : (x a : ℕ) → a ≡ shifts 8 (x % 256) → bitXor (x / 2 ^ 8) a ≡ shifts 8 x
+looked-1 x a ea = ap (bitXor (x / 2 ^ 8)) ea ∙ sym (shifts-split 8 x)
+
+pub looked-2 : (x a b : ℕ) → a ≡ shifts 8 (x / 2 ^ 8 % 256) → b ≡ shifts 16 (x % 256) → bitXor (bitXor (x / 2 ^ 16) a) b ≡ shifts 16 x
+unfolding looks shifts
+looked-2 x a b ea eb =
+    ap₂ bitXor (ap (bitXor (x / 2 ^ 16)) ea) (eb ∙ ap (λ (y : ℕ). shifts 16 (y % 256)) (sym (div-one x)))
+    ∙ sym (sliced 0 2 0 x) ∙ ap (shifts 16) (div-one x)
+
+pub looked-4 : (k x a b c d : ℕ) → x < 2 ^ 32 → a ≡ shifts (8 * (k + 1)) (x / 2 ^ 24 % 256) → b ≡ shifts (8 * (k + 1 + 1)) (x / 2 ^ 16 % 256)
     → c ≡ shifts (8 * (k + 2 + 1)) (x / 2 ^ 8 % 256) → d ≡ shifts (8 * (k + 3 + 1)) (x % 256) → bitXor (bitXor (bitXor a b) c) d ≡ shifts (8 * (k + 4)) x
 unfolding looks
-looked k x a b c d h ea eb ec ed =
+looked-4 k x a b c d h ea eb ec ed =
     let e1 : k + 1 + 1 ≡ k + 2 = omega arith in
     let e2 : k + 2 + 1 ≡ k + 3 = omega arith in
     let e3 : k + 3 + 1 ≡ k + 4 = omega arith in

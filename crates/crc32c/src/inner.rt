@@ -2,12 +2,12 @@
 ghost use mathlib.Core.Path.{_≡_};
 ghost use Prim.Native.Nat.{ℕ, _+_, _*_, _%_, _^_, _<_, _≤_};
 ghost use mathlib.Core.List.{List, _++_};
-ghost use lib.Bits.{bitXor};
 ghost use lib.ListN.{length, take, drop};
 ghost use Rattle.crc32c.specs.Crc.{shifts, fed, crc32c as crcOf};
 ghost use Rattle.crc32c.specs.Tables.{Tables};
 ghost use Rattle.crc32c.specs.Sparse.{historyBytes, chunkBytes, bufferBytes, endingBytes, lastBytes, Filled, Room, carried};
 use endian::inner::put_u32;
+use endian::inner::u16_at;
 use endian::inner::u32_at;
 
 // From so many bytes on a sparse multiple shortens an input first; shorter ones are done sooner by the tables alone.
@@ -110,12 +110,37 @@ fn follow(t: &Tables, k: usize, s: &[u8], i: usize) -> u32
         ^ look(t, k + 3, s[i])
 }
 
-fn one(t: &Tables, c: u32, b: u8) -> u32
+// The register x after two bytes that are in it already, and after one.
+fn two(t: &Tables, x: u32) -> u32
     requires { ⌜ Tables (now t) ⌝ }
-    ensures { λ r. ⌜ r ≡ shifts 8 (bitXor c b) ⌝ }
+    ensures { λ r. ⌜ r ≡ shifts 16 x ⌝ }
 {
-    let x = c ^ (b as u32);
+    (x >> 16) ^ look(t, 0, low(x >> 8)) ^ look(t, 1, low(x))
+}
+
+fn one(t: &Tables, x: u32) -> u32
+    requires { ⌜ Tables (now t) ⌝ }
+    ensures { λ r. ⌜ r ≡ shifts 8 x ⌝ }
+{
     (x >> 8) ^ look(t, 0, low(x))
+}
+
+// The register start after the bytes of s from place `from` on: the end of what `rest` goes over.
+fn few(t: &Tables, start: u32, s: &[u8], from: usize) -> u32
+    requires { ⌜ Tables (now t) × (from ≤ length (now s)) ⌝ }
+    ensures { λ r. ⌜ r ≡ fed start (drop from (now (s .entry))) ⌝ }
+{
+    let mut c = start;
+    let mut i = from;
+    'twos: while 2 <= s.len() - i {
+        c = two(t, c ^ u16_at(s, i) as u32);
+        i += 2;
+    }
+    'bytes: while i < s.len() {
+        c = one(t, c ^ s[i] as u32);
+        i += 1;
+    }
+    c
 }
 
 // The register start after the bytes of s from place `from` on: the end of what `words` goes over.
@@ -133,11 +158,7 @@ fn rest(t: &Tables, start: u32, s: &[u8], from: usize) -> u32
         c = lead(t, 0, c, s, i);
         i += 4;
     }
-    'bytes: while i < s.len() {
-        c = one(t, c, s[i]);
-        i += 1;
-    }
-    c
+    few(t, c, s, i)
 }
 
 // Short inputs: sixteen bytes at a time. Only the first four wait for the register, so they go in last.

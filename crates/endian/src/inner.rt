@@ -54,6 +54,13 @@ pub fn short_at(s: &[u8], at: usize) -> u64
     n
 }
 
+pub fn put_u8(s: &mut [u8], at: usize, n: u8)
+    requires { ⌜ at + 1 ≤ length (now s) ⌝ }
+    ensures { λ _. ⌜ now (s .exit) ≡ paste (now (s .entry)) at (bytesOf 1 n) 1 ⌝ }
+{
+    s[at] = n;
+}
+
 pub fn put_u16(s: &mut [u8], at: usize, n: u16)
     requires { ⌜ at + 2 ≤ length (now s) ⌝ }
     ensures { λ _. ⌜ now (s .exit) ≡ paste (now (s .entry)) at (bytesOf 2 n) 2 ⌝ }
@@ -84,4 +91,16 @@ pub fn put_u64(s: &mut [u8], at: usize, n: u64)
 {
     put_u32(s, at, (n % 4294967296) as u32);
     put_u32(s, at + 4, (n / 4294967296) as u32);
+}
+
+// Copies all of src into dst from place at on.
+pub fn copy_in(dst: &mut [u8], at: usize, src: &[u8])
+    requires { ⌜ at + length (now src) ≤ length (now dst) ⌝ }
+    ensures { λ _. ⌜ now (dst .exit) ≡ paste (now (dst .entry)) at (now (src .entry)) (length (now (src .entry))) ⌝ }
+{
+    let mut j = 0;
+    while j < src.len() {
+        dst[at + j] = src[j];
+        j += 1;
+    }
 }

@@ -9,7 +9,8 @@ use lib.ListN.{length, take, drop, set, length-append, length-take, length-drop,
 use lib.Seq.{paste, take-length, take-all, drop-drop, take-add, drop-at, length-take-le}
 use Rattle.endian.specs.Numbers.{bytesOf}
 use Rattle.endian.proofs.Numbers.{length-bytesOf}
-use Rattle.endian.proofs.Places.{paste-two, part-same, part-before, part-behind}
+use Rattle.endian.proofs.Stores.{Stored, first, more, number}
+use Rattle.endian.proofs.Places.{part-same, part-before, part-behind}
 use Rattle.crc32c.specs.Crc.{crc32c}
 use Rattle.page.specs.Layout.{headBytes, pageBytes, pageAt, bodyOf}
 use Rattle.page.specs.Packed.{Head, offOf}
@@ -24,28 +25,6 @@ paste-behind w s h at n l =
     let d : drop (h + at + n) w ≡ drop (at + n) (drop h w) = rw e (sym (drop-drop (at + n) h w)) in
     let g : (take h w ++ take at (drop h w)) ++ take n s ++ drop (at + n) (drop h w) ≡ take h w ++ (take at (drop h w) ++ take n s ++ drop (at + n) (drop h w)) = simp append-assoc in
     rw (t, d, g) (drop-at (take h w) (take at (drop h w) ++ take n s ++ drop (at + n) (drop h w)) h lt)
-
--- ---- stores in a row
-
--- w is d with the m elements of a stored from `at` on
-record Stored (d w : List ℕ) (at : ℕ) (a : List ℕ) (m : ℕ) : Type 0 where
-  long : length a ≡ m
-  room : at + m ≤ length d
-  is : w ≡ paste d at a m
-
-first : (d w a : List ℕ) (at m : ℕ) → length a ≡ m → at + m ≤ length d → w ≡ paste d at a m → Stored d w at a m
-first d w a at m l r e = record { long = l; room = r; is = e }
-
-module _ {d w : List ℕ} {at : ℕ} {a : List ℕ} {m : ℕ} (s : Stored d w at a m) where
-  more : (v b : List ℕ) (n : ℕ) → length b ≡ n → at + m + n ≤ length d → v ≡ paste w (at + m) b n → Stored d v at (a ++ b) (m + n)
-  more v b n l r e = record {
-    long = omega (arith, length-append a b, s .long);
-    room = omega arith;
-    is = e ∙ rw (s .is) (paste-two d a b at m n (s .long) l (s .room));
-  }
-
-  number : (v : List ℕ) (k n : ℕ) → at + m + k ≤ length d → v ≡ paste w (at + m) (bytesOf k n) k → Stored d v at (a ++ bytesOf k n) (m + k)
-  number v k n = more v (bytesOf k n) k (length-bytesOf k n)
 
 -- ---- the header
 

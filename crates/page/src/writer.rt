@@ -12,21 +12,11 @@ use crate::BODY_BYTES;
 use crate::inner::put_slot;
 use endian::Lsn;
 use endian::PageNumber;
+use endian::inner::copy_in;
+use endian::inner::put_u8;
 use endian::inner::put_u16;
 use endian::inner::put_u32;
 use endian::inner::put_u64;
-
-// Copies all of src into dst from place at on.
-pub fn copy_in(dst: &mut [u8], at: usize, src: &[u8])
-    requires { ⌜ at + length (now src) ≤ length (now dst) ⌝ }
-    ensures { λ _. ⌜ now (dst .exit) ≡ paste (now (dst .entry)) at (now (src .entry)) (length (now (src .entry))) ⌝ }
-{
-    let mut j = 0;
-    while j < src.len() {
-        dst[at + j] = src[j];
-        j += 1;
-    }
-}
 
 // An empty slot's offset is 0.
 pub fn off_of(n: usize, start: usize) -> u16
@@ -37,13 +27,6 @@ pub fn off_of(n: usize, start: usize) -> u16
         return 0;
     }
     start as u16
-}
-
-fn put_u8(s: &mut [u8], at: usize, n: u8)
-    requires { ⌜ at + 1 ≤ length (now s) ⌝ }
-    ensures { λ _. ⌜ now (s .exit) ≡ paste (now (s .entry)) at (bytesOf 1 n) 1 ⌝ }
-{
-    s[at] = n;
 }
 
 // Magic, type, flags 0, item count and checksum.

@@ -1,4 +1,4 @@
--- Where the tuple of a row stands, and its header (paper 01, Numbers given back: reading a row).
+-- Internal: where the tuple of a row stands, and its header, as they are found (paper 01, Numbers given back: reading a row).
 use Prim.Native.Nat.{ℕ, _+_, _-_, _≤_}
 use mathlib.Core.Path.{_≡_}
 use mathlib.Core.Bool.{Bool, true, false}

@@ -121,30 +121,33 @@ pub struct Parsed {
 }
 
 impl Parsed {
-    /// None if help was asked for.
-    pub fn read(command: &'static Command, words: &[OsString]) -> Result<Option<Parsed>, Failure> {
-        let mut parsed = Parsed {
+    pub fn of(command: &'static Command) -> Parsed {
+        Parsed {
             command,
             given: Vec::new(),
             chosen: BTreeMap::new(),
             magic: Cell::new(None),
-        };
+        }
+    }
+
+    /// Takes the words in; false if help is asked for. After a failure it has those before the wrong one.
+    pub fn read(&mut self, words: &[OsString]) -> Result<bool, Failure> {
         let mut words = words.iter();
         let mut only_names = false;
         while let Some(word) = words.next() {
             let text = word.to_string_lossy();
             if only_names || !text.starts_with('-') || text == "-" {
-                parsed.given.push(word.clone());
+                self.given.push(word.clone());
             } else if text == "--" {
                 only_names = true;
             } else if text == "--help" || text == "-h" {
-                return Ok(None);
+                return Ok(false);
             } else {
-                parsed.choose(word, &mut words)?;
+                self.choose(word, &mut words)?;
             }
         }
-        parsed.check_count()?;
-        Ok(Some(parsed))
+        self.check_count()?;
+        Ok(true)
     }
 
     /// Takes an option in: `--name`, `--name value` or `--name=value`.

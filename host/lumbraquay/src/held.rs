@@ -77,7 +77,7 @@ impl Held {
     /// Fails if another process has written to the file, or wants to.
     fn must_be_alone(&self) -> Result<(), Failure> {
         self.seen.must_be_as_read()?;
-        match self.is_unwanted() {
+        match self.is_alone() {
             true => Ok(()),
             false => {
                 let why = "another process opens it for writing; no file was changed";
@@ -86,7 +86,8 @@ impl Held {
         }
     }
 
-    fn is_unwanted(&self) -> bool {
+    /// Whether nobody else wants to write to it, as far as the system tells.
+    fn is_alone(&self) -> bool {
         !self.leased || sys::is_leased(&self.seen.file)
     }
 
@@ -131,7 +132,7 @@ impl Held {
         let now = self.seen.file.metadata();
         let is_unwritten = now.is_ok_and(|now| Stamp::of(&now).is_unwritten(&self.seen.stamp));
         let second = match second {
-            Some(second) if !is_unwritten || !self.is_unwanted() => {
+            Some(second) if !is_unwritten || !self.is_alone() => {
                 return Err(second.put_back(path, backup));
             }
             second => second,

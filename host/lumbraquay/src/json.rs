@@ -1,4 +1,4 @@
-//! JSON values as text. A number of an object that is above 2^53, which some readers round, has a twin: after "lsn" comes
+//! JSON values as text. A number of an object from 2^53 on, which some readers round, has a twin: after "lsn" comes
 //! "lsn_text", the same number as a text.
 
 use std::fmt::{self, Display, Formatter};

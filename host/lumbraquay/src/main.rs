@@ -134,9 +134,12 @@ fn run(words: &[OsString], output: &mut Output, told: &mut Told) -> Result<(), F
         name => {
             let command = find(name, first)?;
             told.command = command.name.into();
-            let Some(parsed) = Parsed::read(command, rest)? else {
+            let mut parsed = Parsed::of(command);
+            let read = parsed.read(rest);
+            told.fields = parsed.fields();
+            if !read? {
                 return output.text(&command.help());
-            };
+            }
             told.json = parsed.flag("--json");
             if parsed.flag("--quiet") {
                 if told.json {

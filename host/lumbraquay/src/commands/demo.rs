@@ -120,12 +120,9 @@ fn recover_files(
         pages.into(),
         log.into(),
     ];
-    match Parsed::read(&recover::COMMAND, &words)? {
-        Some(parsed) => recover::recover(&parsed, output),
-        None => Err(Failure::Usage(
-            "recover took its arguments for a call for help".to_string(),
-        )),
-    }
+    let mut parsed = Parsed::of(&recover::COMMAND);
+    parsed.read(&words)?;
+    recover::recover(&parsed, output)
 }
 
 /// What a slot holds on pages as they stand.

@@ -161,6 +161,10 @@ pub fn transactions(mended: &Mended) -> String {
         LEFT + WIDTH + 10.0,
         LEFT + WIDTH + 10.0
     );
+    let many = checkpoints.len();
+    if many > MOST_BARS {
+        checkpoints.clear();
+    }
     svg += &backdrop(mended, &scale, rows, &checkpoints);
     let mut y = 4;
     if !alone.is_empty() {
@@ -177,6 +181,9 @@ pub fn transactions(mended: &Mended) -> String {
     if left_out > 0 {
         svg +=
             &format!("<p class=\"note\">{left_out} more, which changed less, are not drawn.</p>\n");
+    }
+    if many > MOST_BARS {
+        svg += &format!("<p class=\"note\">{many} checkpoints are not drawn.</p>\n");
     }
     svg + LEGEND_OF_BARS
 }
@@ -234,7 +241,7 @@ fn backdrop(mended: &Mended, scale: &Scale, rows: usize, checkpoints: &[u64]) ->
             scale.x(mended.log.bytes.len() as u64) - scale.x(torn)
         );
     }
-    for place in checkpoints.iter().take(MOST_BARS) {
+    for place in checkpoints {
         svg += &format!(
             "<line class=\"check\" x1=\"{0:.1}\" x2=\"{0:.1}\" y1=\"0\" y2=\"{bottom}\"><title>checkpoint at offset {place}</title></line>\n",
             scale.x(*place)

@@ -66,6 +66,7 @@ fn every_end_has_a_result() {
     assert!(wrong.text("message").starts_with(
         "LOG is missing: the log file; - for standard input\nuse: lumbraquay recover"
     ));
+    assert_eq!(wrong.text("pages_file"), "outage.pages");
     let unknown = sandbox
         .say("mend --json")
         .fails_as_json("'mend' is no command");
@@ -76,7 +77,7 @@ fn every_end_has_a_result() {
         .fails(&["cannot open --json: No such file"]);
 }
 
-/// Numbers above 2^53 have a twin that is a text.
+/// Numbers from 2^53 on have a twin that is a text.
 #[test]
 fn large_numbers_are_exact() {
     let sandbox = Sandbox::new();

@@ -100,7 +100,7 @@ impl Waiting {
                 Ok(pipe) => return Waiting { child, pipe },
                 Err(_) => thread::sleep(Duration::from_millis(1)),
             }
-            assert!(start.elapsed() < Duration::from_secs(20));
+            assert!(start.elapsed() < Duration::from_secs(60));
         }
     }
 

@@ -2,7 +2,7 @@ use borrow.Author.Needs.{needs}
 use mathlib.Core.Path.{ap, _∙_}
 use Prim.Native.Nat.{_+_, _*_}
 use Rattle.crc32c.specs.Crc.{shifts}
-use Rattle.crc32c.proofs.Slices.{looked}
+use Rattle.crc32c.proofs.Slices.{looked-4}
 use Rattle.crc32c.proofs.inner.four.Statement.{statement}
 use Rattle.crc32c.proofs.inner.four.Tie as tie
 
@@ -10,7 +10,7 @@ returns : tie.Need-returns
 returns c =
     let e = c .before .before .before .before .before .before .before .before in
     let a = e .args in
-    looked (a .k) (a .x) _ _ _ _ (e .fits .x .fits)
+    looked-4 (a .k) (a .x) _ _ _ _ (e .fits .x .fits)
     (c .before .before .before .before .before .before .look .ensures ∙ ap (shifts (8 * (a .k + 1))) (c .before .before .before .before .before .before .before .low .ensures))
     (c .before .before .before .before .look2 .ensures ∙ ap (shifts (8 * (a .k + 1 + 1))) (c .before .before .before .before .before .low2 .ensures))
     (c .before .before .look3 .ensures ∙ ap (shifts (8 * (a .k + 2 + 1))) (c .before .before .before .low3 .ensures))

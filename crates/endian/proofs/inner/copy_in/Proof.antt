@@ -5,8 +5,8 @@ use native.Mathlib.Omega.{arith}
 use lib.Seq.{paste, paste-zero, paste-suc}
 use lib.ListN.{length, length-set}
 use borrow.Author.Needs.{needs}
-use Rattle.page.proofs.writer.copy_in.Statement.{statement}
-use Rattle.page.proofs.writer.copy_in.Tie as tie
+use Rattle.endian.proofs.inner.copy_in.Statement.{statement}
+use Rattle.endian.proofs.inner.copy_in.Tie as tie
 
 abbrev Inv-loop : tie.InvT-loop
 Inv-loop dst₀ at src j₀ dst j = (dst ≡ paste dst₀ at src j) × (j ≤ length src) × (length dst ≡ length dst₀)

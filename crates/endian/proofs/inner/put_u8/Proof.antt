@@ -1,8 +1,8 @@
 use native.Mathlib.Omega.{arith}
 use borrow.Author.Needs.{needs}
 use Rattle.endian.proofs.Places.{set-byte}
-use Rattle.page.proofs.writer.put_u8.Statement.{statement}
-use Rattle.page.proofs.writer.put_u8.Tie as tie
+use Rattle.endian.proofs.inner.put_u8.Statement.{statement}
+use Rattle.endian.proofs.inner.put_u8.Tie as tie
 
 returns : tie.Need-returns
 returns c = set-byte (c .args .s .now) (c .args .at) (c .args .n) (omega arith) (c .fits .n .fits)
