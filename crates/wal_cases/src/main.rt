@@ -1,11 +1,14 @@
 // Lengths, tails, checksums and places of a log, and a row image that holds a whole entry.
 ghost use Prim.Native.Nat.{_≤_};
+use crate::trip::there_and_back;
 use endian::put_u16;
 use endian::put_u32;
 use endian::put_u64;
 use wal::Before;
 use wal::EntryView;
 use wal::Reading;
+
+mod trip;
 
 // ---- logs
 
@@ -101,6 +104,15 @@ fn print_reading(found: Reading) {
     io::write_all(1, b"\n");
 }
 
+fn print_before(found: Before) {
+    match found {
+        Before::Found(v) => print_reading(Reading::Whole(v)),
+        Before::Nothing => {
+            io::write_all(1, b" none\n");
+        }
+    }
+}
+
 // A step forward, and the place after it.
 fn forward(log: &[u8], at: usize) -> usize {
     let step = wal::reader::forward_at(log, at);
@@ -117,12 +129,7 @@ fn backward(log: &[u8], at: usize) -> usize {
     number(b"  backward from ", at as u64);
     io::write_all(1, b":");
     let found = step.found;
-    match found {
-        Before::Found(v) => print_reading(Reading::Whole(v)),
-        Before::Nothing => {
-            io::write_all(1, b" none\n");
-        }
-    }
+    print_before(found);
     step.place
 }
 
@@ -151,6 +158,24 @@ fn opened(log: &[u8]) {
     );
     number(b" bytes, at ", wal::reader::opened_at(log, false) as u64);
     number(b" or at ", wal::reader::opened_at(log, true) as u64);
+    io::write_all(1, b"\n");
+}
+
+// A reader opened behind the header or at the end, and what it finds by two steps forward and one back.
+fn travel(name: &[u8], log: &[u8], end: bool) {
+    let t = there_and_back(log, end);
+    let first = t.first;
+    let second = t.second;
+    let third = t.third;
+    io::write_all(1, name);
+    number(b": number ", t.number);
+    io::write_all(1, b"\n  forward:");
+    print_reading(first);
+    io::write_all(1, b"  forward:");
+    print_reading(second);
+    io::write_all(1, b"  backward:");
+    print_before(third);
+    number(b"  at ", t.place as u64);
     io::write_all(1, b"\n");
 }
 
@@ -310,6 +335,20 @@ fn image() {
     backward(&log, c);
 }
 
+// Two entries and three bytes of a third: refused without its header, torn, and without those bytes.
+fn readers() {
+    let mut log = [0u8; 140];
+    put_entry(&mut log, 32, 1, 0, 0, 0);
+    put_entry(&mut log, 75, 10, 10, 2, 7);
+    travel(b"a reader of a log that is refused", &log, false);
+    travel(b"the same, from its end", &log, true);
+    put_header(&mut log);
+    travel(b"a reader of a torn log", &log, false);
+    travel(b"the same, from its end", &log, true);
+    travel(b"a reader of a log with an exact end", &log[0..137], false);
+    travel(b"the same, from its end", &log[0..137], true);
+}
+
 fn main() {
     headers();
     places();
@@ -322,4 +361,5 @@ fn main() {
     inner_damages();
     two_entries();
     image();
+    readers();
 }
