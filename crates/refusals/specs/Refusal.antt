@@ -64,23 +64,3 @@ noSuchPage = 15
 -- free map shorter than needed
 abbrev pub mapShort : ℕ
 mapShort = 16
-
--- catalog payload that ends early
-abbrev pub rowEndsEarly : ℕ
-rowEndsEarly = 34
-
--- 2 to 8 or more than 9 bytes after a catalog row's names
-abbrev pub rowForm : ℕ
-rowForm = 35
-
--- layout byte above 1
-abbrev pub rowLayout : ℕ
-rowLayout = 36
-
--- name over 255 bytes, or no room for a catalog row
-abbrev pub rowNoRoom : ℕ
-rowNoRoom = 37
-
--- newest form of a catalog row, for an older reader
-abbrev pub rowNewer : ℕ
-rowNewer = 38

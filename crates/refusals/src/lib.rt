@@ -31,16 +31,6 @@ pub const NO_SUCH_PAGE: u64 = 15;
 
 pub const MAP_SHORT: u64 = 16;
 
-pub const ROW_ENDS_EARLY: u64 = 34;
-
-pub const ROW_FORM: u64 = 35;
-
-pub const ROW_LAYOUT: u64 = 36;
-
-pub const ROW_NO_ROOM: u64 = 37;
-
-pub const ROW_NEWER: u64 = 38;
-
 // A refusal's number and place; number 0 is none.
 pub struct Verdict {
     pub number: u64,

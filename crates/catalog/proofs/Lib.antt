@@ -1,3 +1,0 @@
-pub mod Forms
-pub mod Writing
-pub mod ReadBack
