@@ -4,16 +4,22 @@
 
 /* A byte more than each limit, so that a longer file is refused and not cut short. */
 static uint8_t pages[LQ_PAGE_LIMIT * LQ_PAGE_BYTES + 1], log_bytes[LQ_LOG_LIMIT_BYTES + 1];
-static uint64_t table[LQ_LOG_LIMIT_BYTES / 43 * LQ_RECORD_NUMBERS], magic, out[12];
+static uint64_t table[LQ_LOG_LIMIT_BYTES / 43 * LQ_RECORD_NUMBERS], magic, out[LQ_RECOVER_NUMBERS];
 
 int main(int count, char **words) {
     FILE *page_file = count == 3 ? fopen(words[1], "rb") : NULL, *log_file = count == 3 ? fopen(words[2], "rb") : NULL;
     if (!page_file || !log_file) return fputs("use: recover PAGES LOG\n", stderr), 2;
+    if (lq_version() != LQ_VERSION) return fputs("lumbraquay.h and the library do not belong together\n", stderr), 2;
     size_t pages_len = fread(pages, 1, sizeof pages, page_file), log_len = fread(log_bytes, 1, sizeof log_bytes, log_file);
     for (int at = 7; at >= 0; at--) magic = magic << 8 | pages[at]; /* as page 0 has it */
-    lq_recover(magic, 0, pages, pages_len, log_bytes, log_len, table, sizeof table / sizeof *table, out);
-    printf("number %llu, place %llu, committed %llu, rolled back %llu, unended %llu, pages rewritten %llu\n",
-           (unsigned long long)out[0], (unsigned long long)out[1], (unsigned long long)out[4],
-           (unsigned long long)out[5], (unsigned long long)out[6], (unsigned long long)out[11]);
-    return out[0] == LQ_DONE ? 0 : 3;
+    lq_recover(magic, 0, pages, pages_len, log_bytes, log_len, table, sizeof table / sizeof *table, out, LQ_RECOVER_NUMBERS);
+    if (out[LQ_RECOVER_NUMBER] != LQ_DONE) {
+        fprintf(stderr, "refused by %s at %llu: %s\n", lq_refusal_name(out[LQ_RECOVER_NUMBER]),
+                (unsigned long long)out[LQ_RECOVER_PLACE], lq_refusal_meaning(out[LQ_RECOVER_NUMBER]));
+        return 3;
+    }
+    printf("committed %llu, rolled back %llu, unended %llu, pages rewritten %llu\n",
+           (unsigned long long)out[LQ_RECOVER_COMMITTED], (unsigned long long)out[LQ_RECOVER_ROLLED_BACK],
+           (unsigned long long)out[LQ_RECOVER_UNENDED], (unsigned long long)out[LQ_RECOVER_PAGES_REWRITTEN]);
+    return 0;
 }

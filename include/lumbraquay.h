@@ -4,12 +4,15 @@
  * None allocates, does input or output, keeps a pointer or has state of its own, so calls on different buffers may run
  * at the same time. Each needs under 1 MiB of stack.
  *
- * Buffers. A buffer is a pointer and its length: in bytes, or for a table or rows in numbers. A pointer is never null, also
- * where its length is 0. A buffer that is written (pages of lq_recover, table, rows, map, out) overlaps no other.
+ * Buffers. A buffer is a pointer and its length: in bytes, or for table, rows and out in numbers. Where the length is 0
+ * the pointer is not looked at and may be NULL. A buffer that is written (pages of lq_recover, table, rows, map, out)
+ * overlaps no other.
  *
- * Answers. out is an array of numbers in the order that its comment gives. Its first number is 0 for done or one of
- * the refusals below, its second the refusal's place; refused, all later ones are 0 and every other buffer keeps its
- * bytes. (A step over the log has an order of its own.) Later versions may add numbers at the end and never move one.
+ * Answers. A function writes its answer to out, one number after another in the order of the names below, but no more
+ * than out_len of them; what out has behind them stays. Later versions may add numbers at the end of an answer and
+ * never move one, so a caller lends as many as it knows (LQ_RECOVER_NUMBERS and so on).
+ * The first number is 0 for done or one of the refusals, the second the refusal's place; refused, all later ones are 0
+ * and every other buffer keeps its bytes. (A step over the log has an order of its own.)
  */
 #ifndef LUMBRAQUAY_H
 #define LUMBRAQUAY_H
@@ -22,43 +25,105 @@
 extern "C" {
 #endif
 
-#define LQ_PAGE_BYTES 16384        /* the bytes of a page */
-#define LQ_PAGE_LIMIT 4096         /* more pages are refused by 1 */
-#define LQ_LOG_LIMIT_BYTES 16777216 /* a longer log is refused by 2 */
-#define LQ_RECORD_NUMBERS 4        /* numbers of a table that make one record */
-#define LQ_ROW_NUMBERS 3           /* numbers of a listing that make one row */
+/* The version of this interface. It rises where callers have to be compiled anew: a prototype has changed, or the
+ * numbers of a record or of a row. An answer that grows at its end leaves it as it is. */
+#define LQ_VERSION 1
 
-/* Refusals, each with what its place is. The first that holds in this order is given: 1, 2, 3; then entry by entry 4 to
- * 10 in turn; then page by page 11 before 12; then 13, the earliest entry; then 14, the lowest page; then 15 or 16. */
+/* The version that the library has: LQ_VERSION, where header and library belong together. */
+uint32_t lq_version(void);
+
+#define LQ_PAGE_BYTES 16384         /* the bytes of a page */
+#define LQ_PAGE_LIMIT 4096          /* more pages are refused by 1 */
+#define LQ_LOG_LIMIT_BYTES 16777216 /* a longer log is refused by 2 */
+
+/* The refusals: number, name and meaning of each. The first that holds in this order is given: 1, 2, 3; then entry by
+ * entry 4 to 10 in turn; then page by page 11 before 12; then 13, the earliest entry; then 14, the lowest page; then 15
+ * or 16. The place of 4 to 10 and 13 is the entry's offset in the log, of 11, 12 and 14 the page's index, else 0. */
+#define LQ_EACH_REFUSAL(X) \
+    X(0, LQ_DONE, "done") \
+    X(1, LQ_PAGE_AREA, "the page bytes are no multiple of 16,384, or there are over 4,096 pages") \
+    X(2, LQ_LOG_TOO_LONG, "the log has over 16,777,216 bytes") \
+    X(3, LQ_LOG_HEADER, "the log's header is short, does not start with WALN or is not of version 1") \
+    X(4, LQ_ENTRY_DAMAGED, "a log entry is damaged: its length, its checksum or its inner lengths are wrong") \
+    X(5, LQ_ENTRY_TYPE, "a log entry has a type other than 1 to 5, 7 and 10") \
+    X(6, LQ_ENTRY_SHAPE, "a log entry has a key or a value that its type does not allow") \
+    X(7, LQ_LSN_ORDER, "the LSN of a log entry is not above the one before it") \
+    X(8, LQ_TRANSACTION_ORDER, "a log entry breaks the order of its transaction: a second Begin, or something " \
+      "of a transaction that is not open") \
+    X(9, LQ_CLASH, "a change to a slot that another transaction, still open, has changed") \
+    X(10, LQ_NO_RECORD, "a Begin for which the lent table has no record left") \
+    X(11, LQ_PAGE_NOT_GOOD, "a page is not good: its magic, type, id, checksum or a slot is wrong") \
+    X(12, LQ_PAGE_LSN, "a page's LSN is above the floor and above the last LSN of the log") \
+    X(13, LQ_NO_DATA_PAGE, "a change to a page that is beyond the lent ones or not of type 1") \
+    X(14, LQ_PAGE_OVERFULL, "the rows that belong on a page do not fit it") \
+    X(15, LQ_NO_SUCH_PAGE, "the row is asked for on a page that is not there") \
+    X(16, LQ_MAP_SHORT, "the lent free map is too short")
+
 enum lq_refusal {
-    LQ_DONE = 0,              /* not refused; place 0 */
-    LQ_PAGE_AREA = 1,         /* page bytes no multiple of 16,384, or over 4,096 pages; place 0 */
-    LQ_LOG_TOO_LONG = 2,      /* log over 16,777,216 bytes; place 0 */
-    LQ_LOG_HEADER = 3,        /* log header short or wrong; place 0 */
-    LQ_ENTRY_DAMAGED = 4,     /* an entry's lengths or checksum are wrong; the entry's offset in the log */
-    LQ_ENTRY_TYPE = 5,        /* an entry's type is not 1 to 5, 7 or 10; the entry's offset */
-    LQ_ENTRY_SHAPE = 6,       /* an entry has the wrong shape for its type; the entry's offset */
-    LQ_LSN_ORDER = 7,         /* an entry's LSN is not above the last; the entry's offset */
-    LQ_TRANSACTION_ORDER = 8, /* an entry breaks the order of transactions; the entry's offset */
-    LQ_CLASH = 9,             /* a change to a slot that another unended transaction has changed; the entry's offset */
-    LQ_NO_RECORD = 10,        /* a Begin, and the table has no record left; the entry's offset */
-    LQ_PAGE_NOT_GOOD = 11,    /* magic, type, id, checksum or a slot of a page is wrong; the page's index */
-    LQ_PAGE_LSN = 12,         /* a page's LSN is above both the floor and the log's last LSN; the page's index */
-    LQ_NO_DATA_PAGE = 13,     /* a change to a page beyond the lent ones or not of type 1; the entry's offset */
-    LQ_PAGE_OVERFULL = 14,    /* the rows of a page do not fit it; the page's index */
-    LQ_NO_SUCH_PAGE = 15,     /* the row is asked for on no lent page; place 0 */
-    LQ_MAP_SHORT = 16         /* the free map is shorter than needed; place 0 */
+#define LQ_REFUSAL_CONSTANT(number, name, meaning) name = number,
+    LQ_EACH_REFUSAL(LQ_REFUSAL_CONSTANT)
+#undef LQ_REFUSAL_CONSTANT
 };
+
+/* A refusal's name without LQ_, by its number; never NULL. */
+static inline const char *lq_refusal_name(uint64_t refusal) {
+    switch (refusal) {
+#define LQ_REFUSAL_NAME(number, name, meaning) case number: return &#name[3];
+        LQ_EACH_REFUSAL(LQ_REFUSAL_NAME)
+#undef LQ_REFUSAL_NAME
+    default: return "UNKNOWN";
+    }
+}
+
+/* What a refusal means, by its number; never NULL. */
+static inline const char *lq_refusal_meaning(uint64_t refusal) {
+    switch (refusal) {
+#define LQ_REFUSAL_MEANING(number, name, meaning) case number: return meaning;
+        LQ_EACH_REFUSAL(LQ_REFUSAL_MEANING)
+#undef LQ_REFUSAL_MEANING
+    default: return "no refusal of this version has this number";
+    }
+}
 
 /* The CRC32c (RFC 3720) of len bytes. */
 uint32_t lq_crc32c(const uint8_t *s, size_t len);
 
 /* Where a reader of the log starts: at byte 32, or, with at_end, where the walk from there meets the exact end, a torn
- * tail or damage. Refuses 2 and 3.
- * out: 0 number; 1 the place to start from, 0 where refused. */
-void lq_log_open(const uint8_t *log, size_t len, bool at_end, uint64_t out[2]);
+ * tail or damage. Refuses 2 and 3. */
+void lq_log_open(const uint8_t *log, size_t len, bool at_end, uint64_t *out, size_t out_len);
 
-/* The kinds of a step over the log. */
+enum lq_log_open_answer {
+    LQ_LOG_OPEN_NUMBER = 0,
+    LQ_LOG_OPEN_PLACE = 1 /* the place to start from, 0 where refused */
+};
+#define LQ_LOG_OPEN_NUMBERS 2
+
+/* What stands at a place of the log. A place below 32 or past the log is an exact end. Refuses nothing and does not
+ * look at the header. */
+void lq_log_forward(const uint8_t *log, size_t len, uint64_t place, uint64_t *out, size_t out_len);
+
+/* The whole entry that ends at a place and does not reach before byte 32, or none. It is the reverse of reading forward
+ * only at the end of an entry: a row may itself contain the bytes of one. */
+void lq_log_backward(const uint8_t *log, size_t len, uint64_t place, uint64_t *out, size_t out_len);
+
+/* The answer of both steps. Where there is no entry, the next place is the given one and all behind it are 0. The key
+ * stands at offset + 27, the old value 4 bytes behind the key, the new one 4 bytes behind that. */
+enum lq_log_step_answer {
+    LQ_LOG_STEP_KIND = 0,
+    LQ_LOG_STEP_NEXT = 1, /* the place to go on from: forward the entry's end, backward its offset */
+    LQ_LOG_STEP_OFFSET = 2,
+    LQ_LOG_STEP_LENGTH = 3,
+    LQ_LOG_STEP_LSN = 4,
+    LQ_LOG_STEP_TRANSACTION = 5,
+    LQ_LOG_STEP_ENTRY_TYPE = 6,
+    LQ_LOG_STEP_TABLE = 7,
+    LQ_LOG_STEP_KEY_LEN = 8,
+    LQ_LOG_STEP_OLD_LEN = 9,
+    LQ_LOG_STEP_NEW_LEN = 10
+};
+#define LQ_LOG_STEP_NUMBERS 11
+
+/* The kinds of a step. */
 enum lq_step {
     LQ_STEP_ENTRY = 0,  /* a whole entry */
     LQ_STEP_END = 1,    /* forward: the exact end; backward: no whole entry ends here */
@@ -66,63 +131,122 @@ enum lq_step {
     LQ_STEP_DAMAGED = 4 /* forward: damage */
 };
 
-/* What stands at a place of the log. A place below 32 or past the log is an exact end. Refuses nothing and does not look
- * at the header.
- * out: 0 kind; 1 the place after the entry, or the given place where there is no entry; then of the entry, else 0:
- *      2 offset, 3 length, 4 LSN, 5 transaction, 6 type, 7 table, 8 key length, 9 old value's length, 10 new value's
- *      length. The key stands at offset + 27, the old value 4 bytes after the key, the new one 4 bytes after that. */
-void lq_log_forward(const uint8_t *log, size_t len, uint64_t place, uint64_t out[11]);
+/* Whether every page is good. Refuses 1 and 11. */
+void lq_verify(uint64_t magic, const uint8_t *pages, size_t len, uint64_t *out, size_t out_len);
 
-/* The whole entry that ends at a place and does not reach before byte 32, or none. It is the reverse of reading forward
- * only at the end of an entry: a row may itself contain the bytes of one.
- * out: as of lq_log_forward, with 1 the place before the entry, its offset. */
-void lq_log_backward(const uint8_t *log, size_t len, uint64_t place, uint64_t out[11]);
-
-/* Whether every page is good. Refuses 1 and 11.
- * out: 0 number, 1 place. */
-void lq_verify(uint64_t magic, const uint8_t *pages, size_t len, uint64_t out[2]);
-
-/* Outcomes of a transaction. */
-enum lq_outcome { LQ_UNENDED = 0, LQ_COMMITTED = 1, LQ_ROLLED_BACK = 2 };
+enum lq_verify_answer { LQ_VERIFY_NUMBER = 0, LQ_VERIFY_PLACE = 1 };
+#define LQ_VERIFY_NUMBERS 2
 
 /* Recovers the pages by the log. floor is an LSN up to which all is known to be flushed, 0 where nothing is known.
  * Refuses 1 to 14. Pages that the log changes are written anew in place, the others keep every byte. A run that was
  * broken off between pages may simply be repeated.
- * table: table_len / 4 records of 4 numbers: transaction, LSN of its Begin, outcome, changes; one for each Begin, in log
- *      order. Later numbers stay. A log of len bytes has at most (len - 32) / 43 Begins.
- * out: 0 number, 1 place, 2 LSN of the last whole entry (0 if none), 3 offset of the torn tail (the log's length where
- *      nothing is torn), transactions 4 committed, 5 rolled back and 6 unended, changes 7 of committed, 8 of rolled back
- *      and 9 of unended ones and 10 of transaction 0, 11 pages rewritten. */
+ * table takes table_len / LQ_RECORD_NUMBERS records, one for each Begin, in log order; later numbers stay. A log of n
+ * bytes has at most (n - 32) / 43 Begins. */
 void lq_recover(uint64_t magic, uint64_t floor, uint8_t *pages, size_t pages_len, const uint8_t *log, size_t log_len,
-                uint64_t *table, size_t table_len, uint64_t out[12]);
+                uint64_t *table, size_t table_len, uint64_t *out, size_t out_len);
+
+enum lq_recover_answer {
+    LQ_RECOVER_NUMBER = 0,
+    LQ_RECOVER_PLACE = 1,
+    LQ_RECOVER_LAST_LSN = 2,    /* of the last whole entry, 0 if there is none */
+    LQ_RECOVER_TAIL_OFFSET = 3, /* where the torn tail starts; the log's length where nothing is torn */
+    LQ_RECOVER_COMMITTED = 4,   /* transactions, and so the next two */
+    LQ_RECOVER_ROLLED_BACK = 5,
+    LQ_RECOVER_UNENDED = 6,
+    LQ_RECOVER_CHANGES_COMMITTED = 7, /* changes by these, and by transaction 0 */
+    LQ_RECOVER_CHANGES_ROLLED_BACK = 8,
+    LQ_RECOVER_CHANGES_UNENDED = 9,
+    LQ_RECOVER_CHANGES_ZERO = 10,
+    LQ_RECOVER_PAGES_REWRITTEN = 11
+};
+#define LQ_RECOVER_NUMBERS 12
+
+/* A record of a table. */
+enum lq_record {
+    LQ_RECORD_NUMBER = 0,    /* the transaction */
+    LQ_RECORD_FIRST_LSN = 1, /* of its Begin */
+    LQ_RECORD_OUTCOME = 2,
+    LQ_RECORD_CHANGES = 3
+};
+#define LQ_RECORD_NUMBERS 4
+
+/* Outcomes of a transaction. */
+enum lq_outcome { LQ_UNENDED = 0, LQ_COMMITTED = 1, LQ_ROLLED_BACK = 2 };
+
+/* One row as recovery would leave it, without recovering. Refuses as lq_recover does but for 10, then 15. */
+void lq_read_row(uint64_t magic, uint64_t floor, const uint8_t *pages, size_t pages_len, const uint8_t *log,
+                 size_t log_len, uint64_t page, uint16_t slot, uint64_t *out, size_t out_len);
+
+/* An empty slot, or a page not of type 1, is all 0. */
+enum lq_read_row_answer {
+    LQ_READ_ROW_NUMBER = 0,
+    LQ_READ_ROW_PLACE = 1,
+    LQ_READ_ROW_FILLED = 2, /* 1 or 0 */
+    LQ_READ_ROW_XMIN = 3,
+    LQ_READ_ROW_XMAX = 4,
+    LQ_READ_ROW_DELETED = 5, /* 1 or 0 */
+    LQ_READ_ROW_SOURCE = 6,  /* of the payload: the log where it changes the slot, else the pages */
+    LQ_READ_ROW_OFFSET = 7,  /* of the payload in its source */
+    LQ_READ_ROW_LENGTH = 8,  /* of the payload */
+    LQ_READ_ROW_PAD = 9      /* the 7 pad bytes of the row header */
+};
+#define LQ_READ_ROW_NUMBERS 10
 
 /* Where a row's payload stands. */
 enum lq_source { LQ_FROM_NOWHERE = 0, LQ_FROM_LOG = 1, LQ_FROM_PAGES = 2 };
 
-/* One row as recovery would leave it, without recovering. Refuses as lq_recover does but for 10, then 15.
- * out: 0 number, 1 place, 2 filled (1 or 0), 3 xmin, 4 xmax, 5 deleted (1 or 0), 6 source of the payload: the log where it
- *      changes the slot, else the pages, 7 its offset there, 8 its length, 9 the 7 pad bytes of the row header. An empty
- *      slot, or a page not of type 1, is all 0. */
-void lq_read_row(uint64_t magic, uint64_t floor, const uint8_t *pages, size_t pages_len, const uint8_t *log,
-                 size_t log_len, uint64_t page, uint16_t slot, uint64_t out[10]);
-
 /* The first row with deleted byte 0 on a page of type 1, at or after a slot of a page. Refuses 1 and 11: each call
- * checks every page.
- * out: 0 number, 1 place, 2 found (1 or 0), 3 page, 4 slot, 5 tuple length, row header and payload. None is all 0. */
-void lq_next_visible(uint64_t magic, const uint8_t *pages, size_t len, uint64_t page, uint16_t slot, uint64_t out[6]);
+ * checks every page. */
+void lq_next_visible(uint64_t magic, const uint8_t *pages, size_t len, uint64_t page, uint16_t slot, uint64_t *out,
+                     size_t out_len);
 
-/* The rows with deleted byte 0 on pages of type 1, from a slot of a page on, as many as rows has room for: three numbers
- * each, page, slot, tuple length (row header and payload), in that order; later numbers stay. Refuses 1 and 11: each
- * call checks every page, so lend room for many. To go on, call again from the page and slot that are given back.
- * out: 0 number, 1 place, 2 rows given, 3 page and 4 slot of the first row that found no room; where all are given, the
- *      count of pages and 0. */
+/* None is all 0. */
+enum lq_next_visible_answer {
+    LQ_NEXT_VISIBLE_NUMBER = 0,
+    LQ_NEXT_VISIBLE_PLACE = 1,
+    LQ_NEXT_VISIBLE_FOUND = 2, /* 1 or 0 */
+    LQ_NEXT_VISIBLE_PAGE = 3,
+    LQ_NEXT_VISIBLE_SLOT = 4,
+    LQ_NEXT_VISIBLE_LENGTH = 5, /* of the tuple: row header of 24 bytes, and payload */
+    LQ_NEXT_VISIBLE_OFFSET = 6  /* of the tuple in pages */
+};
+#define LQ_NEXT_VISIBLE_NUMBERS 7
+
+/* The rows with deleted byte 0 on pages of type 1, from a slot of a page on, as many as rows has room for:
+ * rows_len / LQ_ROW_NUMBERS; later numbers stay. Refuses 1 and 11: each call checks every page, so lend room for many.
+ * To go on, call again from the page and slot that are given back. */
 void lq_list_visible(uint64_t magic, const uint8_t *pages, size_t len, uint64_t page, uint16_t slot, uint64_t *rows,
-                     size_t rows_len, uint64_t out[5]);
+                     size_t rows_len, uint64_t *out, size_t out_len);
+
+enum lq_list_visible_answer {
+    LQ_LIST_VISIBLE_NUMBER = 0,
+    LQ_LIST_VISIBLE_PLACE = 1,
+    LQ_LIST_VISIBLE_COUNT = 2, /* rows given */
+    LQ_LIST_VISIBLE_PAGE = 3,  /* of the first row that found no room; the count of pages where all are given */
+    LQ_LIST_VISIBLE_SLOT = 4   /* its slot; 0 */
+};
+#define LQ_LIST_VISIBLE_NUMBERS 5
+
+/* A row of a listing. */
+enum lq_row {
+    LQ_ROW_PAGE = 0,
+    LQ_ROW_SLOT = 1,
+    LQ_ROW_LENGTH = 2, /* of the tuple: row header of 24 bytes, and payload */
+    LQ_ROW_OFFSET = 3  /* of the tuple in pages */
+};
+#define LQ_ROW_NUMBERS 4
 
 /* Writes the map of free pages: bit i, lowest bit first, is 1 exactly if page i has type 4. It needs a byte for every 8
- * pages begun; spare bits of the last one are 0 and later bytes stay. Refuses 1, 11 and 16.
- * out: 0 number, 1 place, 2 free pages. */
-void lq_free_map(uint64_t magic, const uint8_t *pages, size_t len, uint8_t *map, size_t map_len, uint64_t out[3]);
+ * pages begun; spare bits of the last one are 0 and later bytes stay. Refuses 1, 11 and 16. */
+void lq_free_map(uint64_t magic, const uint8_t *pages, size_t len, uint8_t *map, size_t map_len, uint64_t *out,
+                 size_t out_len);
+
+enum lq_free_map_answer {
+    LQ_FREE_MAP_NUMBER = 0,
+    LQ_FREE_MAP_PLACE = 1,
+    LQ_FREE_MAP_FREE = 2 /* free pages */
+};
+#define LQ_FREE_MAP_NUMBERS 3
 
 #ifdef __cplusplus
 }

@@ -1,7 +1,8 @@
 -- The numbers that each function of the C interface writes, in the order of include/lumbraquay.h.
 use Prim.Native.Nat.{ℕ}
-use mathlib.Core.List.{List, [], _∷_}
+use mathlib.Core.List.{List, [], _∷_, _++_}
 use mathlib.Core.Bool.{Bool}
+use lib.ListN.{length, take, drop}
 use Rattle.wal.specs.Read.{headerFault, readAt, found, readBefore}
 use Rattle.wal.specs.Reader.{openedAt, placeAfter, placeBefore}
 use Rattle.wal.specs.declared.Reading.{Reading}
@@ -13,12 +14,20 @@ use Rattle.rules.specs.Order.{one}
 use Rattle.rules.specs.Row.{locatedOf}
 use Rattle.rules.specs.declared.Located.{Located}
 use Rattle.page.specs.Fault.{verdictOf}
-use Rattle.page.specs.Rows.{nextRow}
+use Rattle.page.specs.Rows.{nextRow, numbersOf}
 use Rattle.page.specs.FreeMap.{mapVerdict, freeCount}
 use Rattle.refusals.specs.declared.Verdict.{Verdict}
 use Rattle.page.specs.declared.NextRow.{NextRow}
 use Rattle.page.specs.declared.RowList.{RowList}
 use Rattle.page.specs.declared.NextRow.the-variants.{Refused, At, NoMore}
+
+-- lq_version
+abbrev pub version : ℕ
+version = 1
+
+-- what a function leaves in the array that it is lent for its numbers: the first of them, as many as fit, and the rest of the array as it was
+unfoldable pub given : List ℕ → List ℕ → List ℕ
+given numbers out = take (length out) numbers ++ drop (length numbers) out
 
 -- ---- the log
 
@@ -68,11 +77,11 @@ verdictNumbers v = v .number ∷ v .place ∷ []
 unfoldable pub verifyNumbers : ℕ → List ℕ → List ℕ
 verifyNumbers magic pages = verdictNumbers (verdictOf magic pages)
 
--- lq_next_visible: number, place, found, page, slot, tuple length
+-- lq_next_visible: number, place, found, page, slot, tuple length, tuple offset in the page area
 abbrev pub rowNumbers : NextRow → List ℕ
-rowNumbers (Refused v) = v .number ∷ v .place ∷ 0 ∷ 0 ∷ 0 ∷ 0 ∷ []
-rowNumbers (At r) = 0 ∷ 0 ∷ 1 ∷ r .page .0 ∷ r .slot ∷ r .length ∷ []
-rowNumbers NoMore = 0 ∷ 0 ∷ 0 ∷ 0 ∷ 0 ∷ 0 ∷ []
+rowNumbers (Refused v) = v .number ∷ v .place ∷ 0 ∷ 0 ∷ 0 ∷ 0 ∷ 0 ∷ []
+rowNumbers (At r) = 0 ∷ 0 ∷ 1 ∷ numbersOf r
+rowNumbers NoMore = 0 ∷ 0 ∷ 0 ∷ 0 ∷ 0 ∷ 0 ∷ 0 ∷ []
 
 unfoldable pub nextVisibleNumbers : ℕ → List ℕ → ℕ → ℕ → List ℕ
 nextVisibleNumbers magic pages page slot = rowNumbers (nextRow magic pages page slot)

@@ -1,13 +1,13 @@
-// The C interface: see include/lumbraquay.h. Every function is total.
+// The C interface: see include/lumbraquay.h. Every function is total, and each gives its numbers by `give`.
 ghost use mathlib.Core.Path.{_≡_};
 ghost use Rattle.crc32c.specs.Crc.{crc32c as crcOf};
 ghost use Rattle.wal.specs.Read.{found};
 ghost use Rattle.wal.specs.declared.Before.the-variants.{Found, Nothing};
 ghost use Prim.Native.Nat.{_/_};
 ghost use lib.ListN.{length};
-ghost use Rattle.page.specs.Rows.{rowList, rowsAfter};
+ghost use Rattle.page.specs.Rows.{numbersPerRow, rowList, rowsAfter};
 ghost use Rattle.page.specs.FreeMap.{mapAfter};
-ghost use Rattle.capi.specs.Answers.{openNumbers, stepNumbers, kindForward, kindBackward, forwardNumbers, backwardNumbers, verifyNumbers, rowNumbers, nextVisibleNumbers, listNumbers, freeMapNumbers, answerNumbers, locatedNumbers, readRowNumbers};
+ghost use Rattle.capi.specs.Answers.{version, given, openNumbers, stepNumbers, kindForward, kindBackward, forwardNumbers, backwardNumbers, verifyNumbers, rowNumbers, nextVisibleNumbers, listNumbers, freeMapNumbers, answerNumbers, locatedNumbers, readRowNumbers};
 ghost use Rattle.recovery.specs.Flat.{recoverFlat};
 use endian::Lsn;
 use endian::PageNumber;
@@ -28,6 +28,31 @@ const TORN: u64 = 2;
 
 const DAMAGED: u64 = 4;
 
+// The version of the interface.
+const VERSION: u32 = 1;
+
+// Puts numbers into a lent array, as many as fit.
+fn give(numbers: &[u64], out: &mut [u64])
+    ensures { λ _. ⌜ now (out .exit) ≡ given (now (numbers .entry)) (now (out .entry)) ⌝ }
+{
+    let mut i: usize = 0;
+    while i < numbers.len() {
+        if i == out.len() {
+            return;
+        }
+        out[i] = numbers[i];
+        i += 1;
+    }
+}
+
+// The version of the interface that this library has.
+#[no_mangle]
+pub extern "C" fn lq_version() -> u32
+    ensures { λ r. ⌜ r ≡ version ⌝ }
+{
+    VERSION
+}
+
 // The CRC32c of s.
 #[no_mangle]
 pub extern "C" fn lq_crc32c(s: &[u8]) -> u32
@@ -38,12 +63,12 @@ pub extern "C" fn lq_crc32c(s: &[u8]) -> u32
 
 // Opens a log, behind its header or at the end found by walking: number and place.
 #[no_mangle]
-pub extern "C" fn lq_log_open(log: &[u8], at_end: bool, out: &mut [u64; 2])
-    ensures { λ _. ⌜ now (out .exit) ≡ openNumbers «at_end» (now (log .entry)) ⌝ }
+pub extern "C" fn lq_log_open(log: &[u8], at_end: bool, out: &mut [u64])
+    ensures { λ _. ⌜ now (out .exit) ≡ given (openNumbers «at_end» (now (log .entry))) (now (out .entry)) ⌝ }
 {
     let number = wal::header_fault(log);
     let place = wal::reader::opened_at(log, at_end);
-    *out = [number, place as u64];
+    give(&[number, place as u64], out);
 }
 
 // The numbers of a step that finds an entry.
@@ -96,56 +121,59 @@ fn backward_numbers(reading: Before, next: usize) -> [u64; 11]
 
 // A step forward from place.
 #[no_mangle]
-pub extern "C" fn lq_log_forward(log: &[u8], place: u64, out: &mut [u64; 11])
-    ensures { λ _. ⌜ now (out .exit) ≡ forwardNumbers (now (log .entry)) place ⌝ }
+pub extern "C" fn lq_log_forward(log: &[u8], place: u64, out: &mut [u64])
+    ensures { λ _. ⌜ now (out .exit) ≡ given (forwardNumbers (now (log .entry)) place) (now (out .entry)) ⌝ }
 {
     let step = wal::reader::forward_at(log, place as usize);
     let reading = step.found;
-    *out = forward_numbers(reading, step.place);
+    give(&forward_numbers(reading, step.place), out);
 }
 
 // A step backward from place.
 #[no_mangle]
-pub extern "C" fn lq_log_backward(log: &[u8], place: u64, out: &mut [u64; 11])
-    ensures { λ _. ⌜ now (out .exit) ≡ backwardNumbers (now (log .entry)) place ⌝ }
+pub extern "C" fn lq_log_backward(log: &[u8], place: u64, out: &mut [u64])
+    ensures { λ _. ⌜ now (out .exit) ≡ given (backwardNumbers (now (log .entry)) place) (now (out .entry)) ⌝ }
 {
     let step = wal::reader::backward_at(log, place as usize);
     let reading = step.found;
-    *out = backward_numbers(reading, step.place);
+    give(&backward_numbers(reading, step.place), out);
 }
 
 // Whether every page is good: number and place.
 #[no_mangle]
-pub extern "C" fn lq_verify(magic: u64, pages: &[u8], out: &mut [u64; 2])
-    ensures { λ _. ⌜ now (out .exit) ≡ verifyNumbers magic (now (pages .entry)) ⌝ }
+pub extern "C" fn lq_verify(magic: u64, pages: &[u8], out: &mut [u64])
+    ensures { λ _. ⌜ now (out .exit) ≡ given (verifyNumbers magic (now (pages .entry))) (now (out .entry)) ⌝ }
 {
     let v = page::verify(magic, pages);
-    *out = [v.number, v.place];
+    give(&[v.number, v.place], out);
 }
 
 // The numbers of what a listing step answers.
-fn row_numbers(next: NextRow) -> [u64; 6]
+fn row_numbers(next: NextRow) -> [u64; 7]
     ensures { λ r. ⌜ r ≡ rowNumbers next ⌝ }
 {
     match next {
-        NextRow::Refused(v) => [v.number, v.place, 0, 0, 0, 0],
-        NextRow::At(row) => [0, 0, 1, row.page.0, row.slot as u64, row.length as u64],
-        NextRow::NoMore => [0, 0, 0, 0, 0, 0],
+        NextRow::Refused(v) => [v.number, v.place, 0, 0, 0, 0, 0],
+        NextRow::At(row) => [
+            0,
+            0,
+            1,
+            row.page.0,
+            row.slot as u64,
+            row.length as u64,
+            row.offset as u64,
+        ],
+        NextRow::NoMore => [0, 0, 0, 0, 0, 0, 0],
     }
 }
 
 // The first visible row at or after a slot of a page.
 #[no_mangle]
-pub extern "C" fn lq_next_visible(
-    magic: u64,
-    pages: &[u8],
-    page: u64,
-    slot: u16,
-    out: &mut [u64; 6],
-)
-    ensures { λ _. ⌜ now (out .exit) ≡ nextVisibleNumbers magic (now (pages .entry)) page slot ⌝ }
+pub extern "C" fn lq_next_visible(magic: u64, pages: &[u8], page: u64, slot: u16, out: &mut [u64])
+    ensures { λ _. ⌜ now (out .exit) ≡ given (nextVisibleNumbers magic (now (pages .entry)) page slot) (now (out .entry)) ⌝ }
 {
-    *out = row_numbers(page::next_visible(magic, pages, PageNumber(page), slot as usize));
+    let next = page::next_visible(magic, pages, PageNumber(page), slot as usize);
+    give(&row_numbers(next), out);
 }
 
 // The numbers of a listing.
@@ -157,7 +185,7 @@ fn list_numbers(l: RowList) -> [u64; 5]
     [v.number, v.place, l.count as u64, next.0, l.slot as u64]
 }
 
-// The visible rows at or after a slot of a page, three numbers each in rows, as many as they hold: number, place, how many, and the page and slot to go on from.
+// The visible rows at or after a slot of a page, four numbers each in rows, as many as they hold: number, place, how many, and the page and slot to go on from.
 #[no_mangle]
 pub extern "C" fn lq_list_visible(
     magic: u64,
@@ -165,23 +193,23 @@ pub extern "C" fn lq_list_visible(
     page: u64,
     slot: u16,
     rows: &mut [u64],
-    out: &mut [u64; 5],
+    out: &mut [u64],
 )
-    ensures { λ _. ⌜ now (out .exit) ≡ listNumbers (rowList magic (now (pages .entry)) page slot (length (now (rows .entry)) / 3)) ⌝ }
+    ensures { λ _. ⌜ now (out .exit) ≡ given (listNumbers (rowList magic (now (pages .entry)) page slot (length (now (rows .entry)) / numbersPerRow))) (now (out .entry)) ⌝ }
     ensures { λ _. ⌜ now (rows .exit) ≡ rowsAfter magic (now (pages .entry)) page slot (now (rows .entry)) ⌝ }
 {
     let l = page::list_visible(magic, pages, PageNumber(page), slot as usize, rows);
-    *out = list_numbers(l);
+    give(&list_numbers(l), out);
 }
 
 // Writes the map of free pages: number, place and count of free pages.
 #[no_mangle]
-pub extern "C" fn lq_free_map(magic: u64, pages: &[u8], map: &mut [u8], out: &mut [u64; 3])
-    ensures { λ _. ⌜ now (out .exit) ≡ freeMapNumbers magic (now (pages .entry)) (now (map .entry)) ⌝ }
+pub extern "C" fn lq_free_map(magic: u64, pages: &[u8], map: &mut [u8], out: &mut [u64])
+    ensures { λ _. ⌜ now (out .exit) ≡ given (freeMapNumbers magic (now (pages .entry)) (now (map .entry))) (now (out .entry)) ⌝ }
     ensures { λ _. ⌜ now (map .exit) ≡ mapAfter magic (now (pages .entry)) (now (map .entry)) ⌝ }
 {
     let made = page::free_map(magic, pages, map);
-    *out = [made.verdict.number, made.verdict.place, made.free];
+    give(&[made.verdict.number, made.verdict.place, made.free], out);
 }
 
 // The numbers of an answer.
@@ -213,14 +241,14 @@ pub extern "C" fn lq_recover(
     pages: &mut [u8],
     log: &[u8],
     table: &mut [u64],
-    out: &mut [u64; 12],
+    out: &mut [u64],
 )
-    ensures { λ _. ⌜ now (out .exit) ≡ answerNumbers (recoverFlat magic floor (now (pages .entry)) (now (log .entry)) (now (table .entry)) .answer) ⌝ }
+    ensures { λ _. ⌜ now (out .exit) ≡ given (answerNumbers (recoverFlat magic floor (now (pages .entry)) (now (log .entry)) (now (table .entry)) .answer)) (now (out .entry)) ⌝ }
     ensures { λ _. ⌜ now (pages .exit) ≡ recoverFlat magic floor (now (pages .entry)) (now (log .entry)) (now (table .entry)) .pages ⌝ }
     ensures { λ _. ⌜ now (table .exit) ≡ recoverFlat magic floor (now (pages .entry)) (now (log .entry)) (now (table .entry)) .table ⌝ }
 {
     let a = recovery::recover_flat(magic, Lsn(floor), pages, log, table);
-    *out = answer_numbers(a);
+    give(&answer_numbers(a), out);
 }
 
 // The numbers of a row that is located.
@@ -253,10 +281,10 @@ pub extern "C" fn lq_read_row(
     log: &[u8],
     page: u64,
     slot: u16,
-    out: &mut [u64; 10],
+    out: &mut [u64],
 )
-    ensures { λ _. ⌜ now (out .exit) ≡ readRowNumbers magic floor (now (pages .entry)) (now (log .entry)) page slot ⌝ }
+    ensures { λ _. ⌜ now (out .exit) ≡ given (readRowNumbers magic floor (now (pages .entry)) (now (log .entry)) page slot) (now (out .entry)) ⌝ }
 {
     let l = recovery::locate_row(magic, Lsn(floor), pages, log, PageNumber(page), slot);
-    *out = located_numbers(l);
+    give(&located_numbers(l), out);
 }

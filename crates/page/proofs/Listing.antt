@@ -28,30 +28,30 @@ not-none r o e = miss (0 ∷ 1 ∷ []) 2 tt (rw e at o)
 
 -- ---- a row's place
 
-module _ (i k j m : ℕ) (t : List ℕ) where
-  on-earlier-page : j < i → atOrAfter i k (row j m t) ≡ false
+module _ (i k j m : ℕ) (p : List ℕ) where
+  on-earlier-page : j < i → atOrAfter i k (row j m p) ≡ false
   unfolding atOrAfter
   on-earlier-page l = simp (ne-eqb j i (λ e. absurd (omega arith)), le-ltb i j (omega arith))
 
-  on-later-page : i < j → atOrAfter i k (row j m t) ≡ true
+  on-later-page : i < j → atOrAfter i k (row j m p) ≡ true
   unfolding atOrAfter
   on-later-page l = simp (ne-eqb j i (λ e. absurd (omega arith)), lt-ltb i j l)
 
 -- on page i + 1 or behind it
-behind-next : (i j m : ℕ) (t : List ℕ) → i < j → atOrAfter (suc i) 0 (row j m t) ≡ true
+behind-next : (i j m : ℕ) (p : List ℕ) → i < j → atOrAfter (suc i) 0 (row j m p) ≡ true
 unfolding atOrAfter
-behind-next i j m t l =
+behind-next i j m p l =
     elim (decLe j (suc i)) [
       | yes h ↦ simp (eq-eqb j (suc i) (omega arith), le-leb 0 m (omega arith))
       | no h ↦ simp (ne-eqb j (suc i) (λ e. absurd (omega arith)), lt-ltb (suc i) j (omega arith))
     ]
 
-module _ (i k m : ℕ) (t : List ℕ) where
-  in-earlier-slot : m < k → atOrAfter i k (row i m t) ≡ false
+module _ (i k m : ℕ) (p : List ℕ) where
+  in-earlier-slot : m < k → atOrAfter i k (row i m p) ≡ false
   unfolding atOrAfter
   in-earlier-slot l = simp (eq-eqb i i refl, lt-leb k m l)
 
-  in-later-slot : k ≤ m → atOrAfter i k (row i m t) ≡ true
+  in-later-slot : k ≤ m → atOrAfter i k (row i m p) ≡ true
   unfolding atOrAfter
   in-later-slot l = simp (eq-eqb i i refl, le-leb k m l)
 
@@ -92,7 +92,7 @@ module _ (i k : ℕ) (p : List ℕ) where
   skipped (suc m) n j l =
       let e : suc m + n ≡ suc (m + n) = omega arith in
       let g : j + suc m ≡ suc j + m = omega arith in
-      rw (e, g) (cons-passed i k (visible (slotAt p j)) (row i j (slotAt p j)) (slotRows i p (m + n) (suc j)) (in-earlier-slot i k j (slotAt p j) (omega arith))
+      rw (e, g) (cons-passed i k (visible (slotAt p j)) (row i j p) (slotRows i p (m + n) (suc j)) (in-earlier-slot i k j p (omega arith))
       ∙ skipped m n (suc j) (omega arith))
 
   pub slots-from : (n : ℕ) → firstAt i k (slotRows i p (n - k) k) ≡ firstAt i k (slotRows i p n 0)
@@ -104,16 +104,16 @@ module _ (i k : ℕ) (p : List ℕ) where
       ]
 
   module _ (n j : ℕ) (more : j < n) where
-    one : slotRows i p (n - j) j ≡ consIf (visible (slotAt p j)) (row i j (slotAt p j)) (slotRows i p (n - (j + 1)) (j + 1))
+    one : slotRows i p (n - j) j ≡ consIf (visible (slotAt p j)) (row i j p) (slotRows i p (n - (j + 1)) (j + 1))
     unfolding slotRows
     one = let e : n - j ≡ suc (n - (j + 1)) = omega arith in rw (e, add-one)
 
     pub slot-passed : visible (slotAt p j) ≡ false → firstAt i k (slotRows i p (n - j) j) ≡ firstAt i k (slotRows i p (n - (j + 1)) (j + 1))
     slot-passed e = rw (one, e)
 
-    pub slot-found : k ≤ j → visible (slotAt p j) ≡ true → firstAt i k (slotRows i p (n - j) j) ≡ At (row i j (slotAt p j))
+    pub slot-found : k ≤ j → visible (slotAt p j) ≡ true → firstAt i k (slotRows i p (n - j) j) ≡ At (row i j p)
     unfolding firstAt
-    slot-found l e = rw (one, e, in-later-slot i k j (slotAt p j) l)
+    slot-found l e = rw (one, e, in-later-slot i k j p l)
 
   pub slots-done : (n j : ℕ) → n ≤ j → firstAt i k (slotRows i p (n - j) j) ≡ NoMore
   unfolding slotRows firstAt
@@ -136,7 +136,7 @@ module _ (i k : ℕ) where
   unfolding slotRows firstAt
   early-slots j p zero m l = refl
   early-slots j p (suc n) m l =
-      cons-passed i k (visible (slotAt p m)) (row j m (slotAt p m)) (slotRows j p n (suc m)) (on-earlier-page i k j m (slotAt p m) l) ∙ early-slots j p n (suc m) l
+      cons-passed i k (visible (slotAt p m)) (row j m p) (slotRows j p n (suc m)) (on-earlier-page i k j m p l) ∙ early-slots j p n (suc m) l
 
   early-page : (j : ℕ) (p : List ℕ) → j < i → firstAt i k (pageRows j p) ≡ NoMore
   unfolding pageRows firstAt
@@ -178,7 +178,7 @@ module _ (i k : ℕ) where
   unfolding slotRows
   later-slots j p zero m rest l e = e
   later-slots j p (suc n) m rest l e =
-      cons-later (visible (slotAt p m)) j m (slotAt p m) (slotRows j p n (suc m)) rest l (later-slots j p n (suc m) rest l e)
+      cons-later (visible (slotAt p m)) j m p (slotRows j p n (suc m)) rest l (later-slots j p n (suc m) rest l e)
 
   later-page : (j : ℕ) (p : List ℕ) (rest : List Row) → i < j → firstAt i k rest ≡ firstAt (suc i) 0 rest
       → firstAt i k (pageRows j p ++ rest) ≡ firstAt (suc i) 0 (pageRows j p ++ rest)

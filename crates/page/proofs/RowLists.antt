@@ -9,14 +9,14 @@ use native.Mathlib.Omega.{arith}
 use mathlib.Core.List.{List, [], _∷_, _++_, append-assoc, append-nil}
 use lib.Dec.{ltb, leb, eqb}
 use lib.ListN.{length, take, drop, set, length-append, length-drop, drop-of-length-le}
-use lib.Seq.{paste, paste-zero, paste-suc, take-at, drop-at, take-all, drop-drop}
+use lib.Seq.{paste, sets-eq, take-at, drop-at, take-all, drop-drop}
 use borrow.Author.Tests.{lt-ltb, le-ltb, le-leb, lt-leb, eq-eqb, ne-eqb, ltb-true, leb-true, eqb-true, eqb-false}
 use types.Run.{OneOf, miss}
 use denote.Enum.Declared.{tagOf}
 use Rattle.endian.specs.Pick.{pick, consIf}
 use Rattle.page.specs.Layout.{dataType, pagesIn, pageAt, typeOf, countOf, slotAt}
 use Rattle.page.specs.Good.{DataGood}
-use Rattle.page.specs.Rows.{visible, row, slotRows, pageRows, rowsFrom, visibleRows, atOrAfter, firstAt, rowsAt, Listable, numbersOf, numbersOfAll, listed, listOf, listAfter, noList, rowList, rowsAfter}
+use Rattle.page.specs.Rows.{visible, row, slotRows, pageRows, rowsFrom, visibleRows, atOrAfter, firstAt, rowsAt, Listable, numbersOf, numbersPerRow, numbersOfAll, listed, listOf, listAfter, noList, rowList, rowsAfter}
 use Rattle.page.specs.Fault.{verdictOf}
 use Rattle.refusals.specs.declared.Verdict.{Verdict}
 use Rattle.page.specs.declared.Row.{Row}
@@ -74,7 +74,7 @@ unfolding slotRows
 rising-slots i p zero k rest u = lower (suc i) 0 i k rest (inl (omega arith)) u
 rising-slots i p (suc n) k rest u = go (visible (slotAt p k)) (rising-slots i p n (suc k) rest u)
   where
-    go : (t : Bool) → Rising i (suc k) (slotRows i p n (suc k) ++ rest) → Rising i k (consIf t (row i k (slotAt p k)) (slotRows i p n (suc k)) ++ rest)
+    go : (t : Bool) → Rising i (suc k) (slotRows i p n (suc k) ++ rest) → Rising i k (consIf t (row i k p) (slotRows i p n (suc k)) ++ rest)
     go true v = (inr (refl, omega arith), v)
     go false v = lower i (suc k) i k (slotRows i p n (suc k) ++ rest) (inr (refl, omega arith)) v
 
@@ -220,7 +220,7 @@ unfolding slotRows
 low-slots i p zero k l = tt
 low-slots i p (suc n) k l = go (visible (slotAt p k)) (low-slots i p n (suc k) (omega arith))
   where
-    go : (t : Bool) → Low (slotRows i p n (suc k)) → Low (consIf t (row i k (slotAt p k)) (slotRows i p n (suc k)))
+    go : (t : Bool) → Low (slotRows i p n (suc k)) → Low (consIf t (row i k p) (slotRows i p n (suc k)))
     go true u = (omega arith, u)
     go false u = u
 
@@ -251,28 +251,29 @@ slot-low s d i k r e = low-first i k r (visibleRows s) (low-pages s d (pagesIn s
 
 -- ---- rows as numbers
 
-length-numbers : (rs : List Row) → length (numbersOfAll rs) ≡ 3 * length rs
+length-numbers : (rs : List Row) → length (numbersOfAll rs) ≡ numbersPerRow * length rs
 length-numbers [] = refl
 length-numbers (r ∷ rs) = omega (arith, length-numbers rs)
 
 numbers-append : (xs ys : List Row) → numbersOfAll (xs ++ ys) ≡ numbersOfAll xs ++ numbersOfAll ys
 numbers-append [] ys = refl
-numbers-append (r ∷ xs) ys = ap (λ (l : List ℕ). r .page .0 ∷ r .slot ∷ r .length ∷ l) (numbers-append xs ys)
+numbers-append (r ∷ xs) ys = ap (λ (l : List ℕ). numbersOf r ++ l) (numbers-append xs ys)
 
--- three stores in a row
-pub three-stored : (d : List ℕ) (at : ℕ) (r : Row) → at + 3 ≤ length d → set (set (set d at (r .page .0)) (at + 1) (r .slot)) (at + 2) (r .length) ≡ paste d at (numbersOf r) 3
-three-stored d at r l =
-    let z : at + 0 ≡ at = omega arith in
-    let a : set d at (r .page .0) ≡ paste d at (numbersOf r) 1 = ap (λ (x : List ℕ). set x at (r .page .0)) (paste-zero d at (numbersOf r)) ∙ ap (λ (x : ℕ). set (paste d at (numbersOf r) 0) x (r .page .0)) (sym z) ∙ paste-suc d at (numbersOf r) 0 0 (omega arith) (omega arith) in
-    let b : set (set d at (r .page .0)) (at + 1) (r .slot) ≡ paste d at (numbersOf r) 2 = ap (λ (x : List ℕ). set x (at + 1) (r .slot)) a ∙ paste-suc d at (numbersOf r) 1 0 (omega arith) (omega arith) in
-    ap (λ (x : List ℕ). set x (at + 2) (r .length)) b ∙ paste-suc d at (numbersOf r) 2 0 (omega arith) (omega arith)
+-- stores in a row
+pub row-stored : (d : List ℕ) (at : ℕ) (r : Row) → at + numbersPerRow ≤ length d
+    → set (set (set (set d at (r .page .0)) (at + 1) (r .slot)) (at + 2) (r .length)) (at + 3) (r .offset) ≡ paste d at (numbersOf r) numbersPerRow
+row-stored d at r l =
+    let a : at + 1 ≡ suc at = omega arith in
+    let b : at + 2 ≡ suc (suc at) = omega arith in
+    let c : at + 3 ≡ suc (suc (suc at)) = omega arith in
+    rw (a, b, c) (sets-eq (numbersOf r) d at l)
 
 -- from slot k₀ of page i₀ on some rows were given and stored as m numbers, and slot k of page i is where to go on
 pub record Given (s out₀ : List ℕ) (i₀ k₀ i k m : ℕ) (out : List ℕ) : Type 0 where
   pub done : List Row
   pub goes : done ++ rowsAt i k (visibleRows s) ≡ rowsAt i₀ k₀ (visibleRows s)
   pub stored : out ≡ numbersOfAll done ++ drop m out₀
-  pub many : m ≡ 3 * length done
+  pub many : m ≡ numbersPerRow * length done
   pub room : m ≤ length out₀
 
 -- some rows of all, the others being left: as many as there is room for, or all
@@ -290,13 +291,13 @@ module _ (s out₀ : List ℕ) (i₀ k₀ : ℕ) where
     pub given-length : length out ≡ length out₀
     given-length = ap length (g .stored) ∙ length-append (numbersOfAll (g .done)) (drop m out₀) ∙ simp (length-numbers, length-drop) (omega (arith, g .many, g .room))
 
-    pub given-more : (r : Row) (new : List ℕ) → firstAt i k (visibleRows s) ≡ At r → m + 3 ≤ length out₀ → new ≡ paste out m (numbersOf r) 3
-        → Given s out₀ i₀ k₀ (r .page .0) (r .slot + 1) (m + 3) new
+    pub given-more : (r : Row) (new : List ℕ) → firstAt i k (visibleRows s) ≡ At r → m + numbersPerRow ≤ length out₀ → new ≡ paste out m (numbersOf r) numbersPerRow
+        → Given s out₀ i₀ k₀ (r .page .0) (r .slot + 1) (m + numbersPerRow) new
     given-more r new e l h =
         let front : length (numbersOfAll (g .done)) ≡ m = length-numbers (g .done) ∙ sym (g .many) in
         let t : take m out ≡ numbersOfAll (g .done) = ap (take m) (g .stored) ∙ take-at (numbersOfAll (g .done)) (drop m out₀) m front in
-        let d : drop (m + 3) out ≡ drop (m + 3) out₀ =
-        sym (drop-drop 3 m out) ∙ ap (λ (x : List ℕ). drop 3 (drop m x)) (g .stored) ∙ ap (drop 3) (drop-at (numbersOfAll (g .done)) (drop m out₀) m front) ∙ drop-drop 3 m out₀ in
+        let d : drop (m + numbersPerRow) out ≡ drop (m + numbersPerRow) out₀ =
+        sym (drop-drop numbersPerRow m out) ∙ ap (λ (x : List ℕ). drop numbersPerRow (drop m x)) (g .stored) ∙ ap (drop numbersPerRow) (drop-at (numbersOfAll (g .done)) (drop m out₀) m front) ∙ drop-drop numbersPerRow m out₀ in
         record {
           done = g .done ++ (r ∷ []);
           goes = append-assoc (g .done) (r ∷ []) (rowsAt (r .page .0) (r .slot + 1) (visibleRows s)) ∙ ap (λ (x : List Row). g .done ++ x) (sym (row-next s i k r e)) ∙ g .goes;
@@ -306,33 +307,33 @@ module _ (s out₀ : List ℕ) (i₀ k₀ : ℕ) where
         }
 
     -- what is given back in the end
-    answer : (rest : List Row) → rowsAt i k (visibleRows s) ≡ rest → (length (g .done) ≡ length out₀ / 3) ⊎ ((rest ≡ []) × (length (g .done) ≤ length out₀ / 3))
-        → (listed (m / 3) (pagesIn s) rest ≡ listOf s i₀ k₀ (length out₀ / 3)) × (out ≡ listAfter s i₀ k₀ out₀)
+    answer : (rest : List Row) → rowsAt i k (visibleRows s) ≡ rest → (length (g .done) ≡ length out₀ / numbersPerRow) ⊎ ((rest ≡ []) × (length (g .done) ≤ length out₀ / numbersPerRow))
+        → (listed (m / numbersPerRow) (pagesIn s) rest ≡ listOf s i₀ k₀ (length out₀ / numbersPerRow)) × (out ≡ listAfter s i₀ k₀ out₀)
     unfolding listOf listAfter
     answer rest e c =
-        let p = cut (rowsAt i₀ k₀ (visibleRows s)) (g .done) rest (length out₀ / 3) (ap (λ (x : List Row). g .done ++ x) (sym e) ∙ g .goes) c in
-        let n : m / 3 ≡ length (g .done) = omega (arith, g .many) in
+        let p = cut (rowsAt i₀ k₀ (visibleRows s)) (g .done) rest (length out₀ / numbersPerRow) (ap (λ (x : List Row). g .done ++ x) (sym e) ∙ g .goes) c in
+        let n : m / numbersPerRow ≡ length (g .done) = omega (arith, g .many) in
         (rw (p .0, p .1, n), rw (p .0) (g .stored ∙ ap (λ (x : ℕ). numbersOfAll (g .done) ++ drop x out₀) (g .many)))
 
     pub given-end : rowsAt i k (visibleRows s) ≡ []
-        → (listed (m / 3) (pagesIn s) [] ≡ listOf s i₀ k₀ (length out₀ / 3)) × (out ≡ listAfter s i₀ k₀ out₀)
+        → (listed (m / numbersPerRow) (pagesIn s) [] ≡ listOf s i₀ k₀ (length out₀ / numbersPerRow)) × (out ≡ listAfter s i₀ k₀ out₀)
     given-end e = answer [] e (inr (refl, omega (arith, g .many, g .room)))
 
-    pub given-full : (r : Row) → firstAt i k (visibleRows s) ≡ At r → length out₀ < m + 3
-        → (listed (m / 3) (pagesIn s) (r ∷ []) ≡ listOf s i₀ k₀ (length out₀ / 3)) × (out ≡ listAfter s i₀ k₀ out₀)
+    pub given-full : (r : Row) → firstAt i k (visibleRows s) ≡ At r → length out₀ < m + numbersPerRow
+        → (listed (m / numbersPerRow) (pagesIn s) (r ∷ []) ≡ listOf s i₀ k₀ (length out₀ / numbersPerRow)) × (out ≡ listAfter s i₀ k₀ out₀)
     given-full r e l = answer (r ∷ rowsAt (r .page .0) (r .slot + 1) (visibleRows s)) (row-next s i k r e) (inl (omega (arith, g .many, g .room)))
 
 -- ---- the whole answer
 
 module _ (magic : ℕ) (s : List ℕ) (i k : ℕ) (out : List ℕ) (v : Verdict) (is : v ≡ verdictOf magic s) where
-  pub list-refused : (v .number ≡ 0 → ⊥) → (noList v ≡ rowList magic s i k (length out / 3)) × (out ≡ rowsAfter magic s i k out)
+  pub list-refused : (v .number ≡ 0 → ⊥) → (noList v ≡ rowList magic s i k (length out / numbersPerRow)) × (out ≡ rowsAfter magic s i k out)
   unfolding rowList rowsAfter
   list-refused h =
       let t : eqb (verdictOf magic s .number) 0 ≡ false = rw (← is) (ne-eqb (v .number) 0 h) in
       (sym (rw (t, ← is)), sym (rw t))
 
-  pub list-taken : v .number ≡ 0 → (r : RowList) (new : List ℕ) → r ≡ listOf s i k (length out / 3) → new ≡ listAfter s i k out
-      → (r ≡ rowList magic s i k (length out / 3)) × (new ≡ rowsAfter magic s i k out)
+  pub list-taken : v .number ≡ 0 → (r : RowList) (new : List ℕ) → r ≡ listOf s i k (length out / numbersPerRow) → new ≡ listAfter s i k out
+      → (r ≡ rowList magic s i k (length out / numbersPerRow)) × (new ≡ rowsAfter magic s i k out)
   unfolding rowList rowsAfter
   list-taken h r new e f =
       let t : eqb (verdictOf magic s .number) 0 ≡ true = rw (← is) (eq-eqb (v .number) 0 h) in

@@ -108,6 +108,10 @@ slotLen b k = numberAt 2 (4 * k + 2) b
 unfoldable pub slotAt : List ℕ → ℕ → List ℕ
 slotAt p k = pick (ltb k (countOf p)) (part (slotOff (bodyOf p) k) (slotLen (bodyOf p) k) (bodyOf p)) []
 
+-- where in a page area the tuple of slot k starts, p being page i of it
+abbrev pub tupleOffset : ℕ → List ℕ → ℕ → ℕ
+tupleOffset i p k = i * pageBytes + (headBytes + slotOff (bodyOf p) k)
+
 -- ---- a tuple: a row header of 24 bytes, and its payload
 
 abbrev pub rowHead : ℕ

@@ -6,7 +6,7 @@ use mathlib.Core.Bool.{Bool, false}
 use lib.ListN.{length, take, drop}
 use lib.Dec.{ltb, leb, eqb}
 use Rattle.endian.specs.Pick.{pick, consIf}
-use Rattle.page.specs.Layout.{dataType, pagesIn, pageAt, typeOf, countOf, slotAt, deletedOf}
+use Rattle.page.specs.Layout.{dataType, pagesIn, pageAt, typeOf, countOf, slotAt, tupleOffset, deletedOf}
 use Rattle.page.specs.Fault.{verdictOf}
 use Rattle.refusals.specs.Verdict.{accepted}
 use Rattle.refusals.specs.declared.Verdict.{Verdict}
@@ -21,13 +21,14 @@ unfoldable pub visible : List ℕ → Bool
 visible [] = false
 visible (b ∷ t) = eqb (deletedOf (b ∷ t)) 0
 
+-- the row in slot k of page i, which is p: with its tuple's length, and where in the page area the tuple starts
 abbrev pub row : ℕ → ℕ → List ℕ → Row
-row i k t = record { page = record { 0 = i }; slot = k; length = length t }
+row i k p = record { page = record { 0 = i }; slot = k; length = length (slotAt p k); offset = tupleOffset i p k }
 
 -- the visible rows of page i among the n slots from k on
 unfoldable pub slotRows : ℕ → List ℕ → ℕ → ℕ → List Row
 slotRows i p zero k = []
-slotRows i p (suc n) k = consIf (visible (slotAt p k)) (row i k (slotAt p k)) (slotRows i p n (suc k))
+slotRows i p (suc n) k = consIf (visible (slotAt p k)) (row i k p) (slotRows i p n (suc k))
 
 -- the visible rows of page i: none where it is no Data page
 unfoldable pub pageRows : ℕ → List ℕ → List Row
@@ -68,9 +69,12 @@ nextRow magic s i k = unlessRefused (verdictOf magic s) (firstAt i k (visibleRow
 pub record Listable (s : List ℕ) : Type 0 where
   pub at : (i : ℕ) → i < pagesIn s → typeOf (pageAt i s) ≡ dataType → DataGood (pageAt i s)
 
--- a row as numbers
+-- a row as numbers, and how many they are
 abbrev pub numbersOf : Row → List ℕ
-numbersOf r = r .page .0 ∷ r .slot ∷ r .length ∷ []
+numbersOf r = r .page .0 ∷ r .slot ∷ r .length ∷ r .offset ∷ []
+
+abbrev pub numbersPerRow : ℕ
+numbersPerRow = 4
 
 abbrev pub numbersOfAll : List Row → List ℕ
 numbersOfAll [] = []
@@ -85,12 +89,12 @@ listed n pages (r ∷ rs) = record { verdict = accepted; count = n; page = r .pa
 unfoldable pub listOf : List ℕ → ℕ → ℕ → ℕ → RowList
 listOf s i k room = listed (length (take room (rowsAt i k (visibleRows s)))) (pagesIn s) (drop room (rowsAt i k (visibleRows s)))
 
--- three numbers for each of some rows, and the later ones as they were
+-- the numbers of some rows, and the later ones as they were
 abbrev pub withRows : List Row → List ℕ → List ℕ
-withRows rs out = numbersOfAll rs ++ drop (3 * length rs) out
+withRows rs out = numbersOfAll rs ++ drop (numbersPerRow * length rs) out
 
 unfoldable pub listAfter : List ℕ → ℕ → ℕ → List ℕ → List ℕ
-listAfter s i k out = withRows (take (length out / 3) (rowsAt i k (visibleRows s))) out
+listAfter s i k out = withRows (take (length out / numbersPerRow) (rowsAt i k (visibleRows s))) out
 
 -- refused as verification refuses: nothing is given
 abbrev pub noList : Verdict → RowList

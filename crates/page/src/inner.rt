@@ -282,7 +282,7 @@ pub fn next_row(pages: &[u8], index: usize, slot: usize) -> NextRow
     while i < n {
         let a = i * PAGE_BYTES;
         let e = a + PAGE_BYTES;
-        let r = row_on(&pages[a..e], i as u64, k);
+        let r = row_on(&pages[a..e], i, k);
         let NextRow::NoMore = r else {
             return r;
         };

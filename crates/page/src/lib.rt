@@ -3,7 +3,7 @@ ghost use mathlib.Core.Path.{_≡_};
 ghost use Rattle.page.specs.Fault.{verdictOf};
 ghost use Prim.Native.Nat.{_/_};
 ghost use lib.ListN.{length};
-ghost use Rattle.page.specs.Rows.{nextRow, rowList, rowsAfter};
+ghost use Rattle.page.specs.Rows.{nextRow, numbersPerRow, rowList, rowsAfter};
 ghost use Rattle.page.specs.FreeMap.{mapVerdict, freeCount, mapAfter};
 use endian::Lsn;
 use endian::PageNumber;
@@ -84,11 +84,12 @@ pub struct PageHead {
     pub lsn: Lsn,
 }
 
-// A visible row.
+// A visible row: its tuple's length, and where in the page area the tuple starts.
 pub struct Row {
     pub page: PageNumber,
     pub slot: usize,
     pub length: usize,
+    pub offset: usize,
 }
 
 // What a listing step answers.
@@ -131,8 +132,8 @@ pub fn next_visible(magic: u64, pages: &[u8], page: PageNumber, slot: usize) -> 
     inner::next_row(pages, page.0 as usize, slot)
 }
 
-// Fills the lent numbers with the visible rows at or after a slot of a page, three numbers a row: page, slot, length; verifies the pages once. Gives back how many
-// rows there are, and the place of the first that found no room, or the count of pages and 0 where all are given. Refuses 1 and 11, which leave the numbers as they are.
+// Fills the lent numbers with the visible rows at or after a slot of a page, four numbers a row: page, slot, length, offset in the page area; verifies the pages once. Gives
+// back how many rows there are, and the place of the first that found no room, or the count of pages and 0 where all are given. Refuses 1 and 11, which leave the numbers as they are.
 pub fn list_visible(
     magic: u64,
     pages: &[u8],
@@ -140,7 +141,7 @@ pub fn list_visible(
     slot: usize,
     out: &mut [u64],
 ) -> RowList
-    ensures { λ r. ⌜ r ≡ rowList magic (now (pages .entry)) (page .0) slot (length (now (out .entry)) / 3) ⌝ }
+    ensures { λ r. ⌜ r ≡ rowList magic (now (pages .entry)) (page .0) slot (length (now (out .entry)) / numbersPerRow) ⌝ }
     ensures { λ _. ⌜ now (out .exit) ≡ rowsAfter magic (now (pages .entry)) (page .0) slot (now (out .entry)) ⌝ }
 {
     let v = verify(magic, pages);

@@ -3,7 +3,7 @@ ghost use mathlib.Core.Path.{_≡_};
 ghost use Prim.Native.Nat.{_+_, _/_, _≤_};
 ghost use lib.ListN.{length};
 ghost use lib.Seq.{paste};
-ghost use Rattle.page.specs.Rows.{Listable, numbersOf, listOf, listAfter};
+ghost use Rattle.page.specs.Rows.{Listable, numbersOf, numbersPerRow, listOf, listAfter};
 use crate::NextRow;
 use crate::PAGE_BYTES;
 use crate::Row;
@@ -12,17 +12,18 @@ use crate::inner::next_row;
 use endian::PageNumber;
 use refusals::Verdict;
 
-// A row is three numbers.
-const ROW_NUMBERS: usize = 3;
+// A row is four numbers.
+const ROW_NUMBERS: usize = 4;
 
-// Puts a row into three numbers.
+// Puts a row's numbers at a place.
 fn put_row(out: &mut [u64], at: usize, row: Row)
-    requires { ⌜ at + 3 ≤ length (now out) ⌝ }
-    ensures { λ _. ⌜ now (out .exit) ≡ paste (now (out .entry)) at (numbersOf row) 3 ⌝ }
+    requires { ⌜ at + numbersPerRow ≤ length (now out) ⌝ }
+    ensures { λ _. ⌜ now (out .exit) ≡ paste (now (out .entry)) at (numbersOf row) numbersPerRow ⌝ }
 {
     out[at] = row.page.0;
     out[at + 1] = row.slot as u64;
     out[at + 2] = row.length as u64;
+    out[at + 3] = row.offset as u64;
 }
 
 // Where a listing of count rows goes on.
@@ -43,7 +44,7 @@ fn row_list(count: usize, page: PageNumber, slot: usize) -> RowList
 // Fills the lent numbers with the visible rows at or after a slot of the page at an index, on pages that were verified.
 pub fn fill(pages: &[u8], index: usize, slot: usize, out: &mut [u64]) -> RowList
     requires { ⌜ Listable (now pages) ⌝ }
-    ensures { λ r. ⌜ r ≡ listOf (now (pages .entry)) index slot (length (now (out .entry)) / 3) ⌝ }
+    ensures { λ r. ⌜ r ≡ listOf (now (pages .entry)) index slot (length (now (out .entry)) / numbersPerRow) ⌝ }
     ensures { λ _. ⌜ now (out .exit) ≡ listAfter (now (pages .entry)) index slot (now (out .entry)) ⌝ }
 {
     let mut i = index;

@@ -1,14 +1,16 @@
 // The first visible row of a page at or after a slot, on a page that is good.
 ghost use mathlib.Core.Path.{_≡_};
-ghost use Prim.Native.Nat.{_<_};
+ghost use Prim.Native.Nat.{_<_, _^_};
 ghost use lib.ListN.{length};
 ghost use Rattle.endian.specs.Pick.{pick};
-ghost use Rattle.page.specs.Layout.{pageBytes, dataType, typeOf, countOf, slotAt};
+ghost use Rattle.page.specs.Layout.{pageBytes, slotLimit, dataType, typeOf, countOf, slotAt};
 ghost use Rattle.page.specs.Good.{DataGood};
-ghost use Rattle.page.specs.Rows.{visible, slotRows, pageRows, firstAt};
+ghost use Rattle.page.specs.Rows.{visible, row, slotRows, pageRows, firstAt};
 use crate::DATA_TYPE;
 use crate::DELETED_AT;
+use crate::HEAD_BYTES;
 use crate::NextRow;
+use crate::PAGE_BYTES;
 use crate::Row;
 use crate::inner::count;
 use crate::inner::kind;
@@ -34,10 +36,27 @@ fn visible_len(page: &[u8], k: usize) -> usize
     n
 }
 
+// The row in slot k of the page at an index, whose tuple has so many bytes.
+fn row_in(page: &[u8], index: usize, k: usize, len: usize) -> Row
+    requires { ⌜ (length (now page) ≡ pageBytes) × (k < slotLimit) ⌝ }
+    requires { ⌜ index < 2 ^ 49 ⌝ }
+    requires { ⌜ len ≡ length (slotAt (now page) k) ⌝ }
+    ensures { λ r. ⌜ r ≡ row index k (now (page .entry)) ⌝ }
+{
+    let o = slot_off(page, k);
+    Row {
+        page: PageNumber(index as u64),
+        slot: k,
+        length: len,
+        offset: index * PAGE_BYTES + (HEAD_BYTES + o),
+    }
+}
+
 // The first visible row of a Data page at or after a slot.
-fn row_of(page: &[u8], index: u64, slot: usize) -> NextRow
+fn row_of(page: &[u8], index: usize, slot: usize) -> NextRow
     requires { ⌜ length (now page) ≡ pageBytes ⌝ }
     requires { ⌜ DataGood (now page) ⌝ }
+    requires { ⌜ index < 2 ^ 49 ⌝ }
     ensures { λ r. ⌜ r ≡ firstAt index slot (slotRows index (now (page .entry)) (countOf (now (page .entry))) 0) ⌝ }
 {
     let n = count(page);
@@ -45,11 +64,7 @@ fn row_of(page: &[u8], index: u64, slot: usize) -> NextRow
     while k < n {
         let len = visible_len(page, k);
         if len != 0 {
-            return NextRow::At(Row {
-                page: PageNumber(index),
-                slot: k,
-                length: len,
-            });
+            return NextRow::At(row_in(page, index, k, len));
         }
         k += 1;
     }
@@ -57,9 +72,10 @@ fn row_of(page: &[u8], index: u64, slot: usize) -> NextRow
 }
 
 // The first visible row of a page at or after a slot.
-pub fn row_on(page: &[u8], index: u64, slot: usize) -> NextRow
+pub fn row_on(page: &[u8], index: usize, slot: usize) -> NextRow
     requires { ⌜ length (now page) ≡ pageBytes ⌝ }
     requires { ⌜ (typeOf (now page) ≡ dataType → DataGood (now page)) ⌝ }
+    requires { ⌜ index < 2 ^ 49 ⌝ }
     ensures { λ r. ⌜ r ≡ firstAt index slot (pageRows index (now (page .entry))) ⌝ }
 {
     if kind(page) != DATA_TYPE {

@@ -180,6 +180,7 @@ fn show_row(pages: &[u8], i: u64, k: usize) {
             number(b": page ", n.0);
             number(b", slot ", w.slot as u64);
             number(b", length ", w.length as u64);
+            number(b", at ", w.offset as u64);
         }
         NextRow::NoMore => word(b": none"),
     }
@@ -192,8 +193,8 @@ fn show_at(s: &[u64], j: usize) {
     }
 }
 
-// The first seven of some numbers.
-fn show_seven(s: &[u64]) {
+// The first nine of some numbers.
+fn show_nine(s: &[u64]) {
     show_at(s, 0);
     show_at(s, 1);
     show_at(s, 2);
@@ -201,6 +202,8 @@ fn show_seven(s: &[u64]) {
     show_at(s, 4);
     show_at(s, 5);
     show_at(s, 6);
+    show_at(s, 7);
+    show_at(s, 8);
     word(b"\n");
 }
 
@@ -221,7 +224,7 @@ fn show_answer(i: u64, k: usize, l: RowList) {
 fn show_list(pages: &[u8], i: u64, k: usize, rows: &mut [u64]) {
     let l = page::list_visible(MAGIC, pages, PageNumber(i), k, rows);
     show_answer(i, k, l);
-    show_seven(rows);
+    show_nine(rows);
 }
 
 fn show_map(name: &[u8], pages: &[u8], map: &mut [u8]) {
@@ -254,13 +257,13 @@ fn row_cases(a: &[u8])
 fn list_cases(a: &[u8])
     requires { ⌜ length (now a) ≡ 49152 ⌝ }
 {
-    show_list(a, 0, 0, &mut [9u64; 7]);
-    show_list(a, 2, 0, &mut [9u64; 7]);
-    show_list(a, 0, 3, &mut [9u64; 6]);
-    show_list(a, 2, 1, &mut [9u64; 3]);
-    show_list(a, 0, 0, &mut [9u64; 2]);
+    show_list(a, 0, 0, &mut [9u64; 9]);
+    show_list(a, 2, 0, &mut [9u64; 9]);
+    show_list(a, 0, 3, &mut [9u64; 8]);
+    show_list(a, 2, 1, &mut [9u64; 4]);
+    show_list(a, 0, 0, &mut [9u64; 3]);
     show_list(a, 1, 0, &mut [9u64; 0]);
-    show_list(&a[16384..], 0, 0, &mut [9u64; 3]);
+    show_list(&a[16384..], 0, 0, &mut [9u64; 4]);
 }
 
 fn map_cases(a: &[u8])

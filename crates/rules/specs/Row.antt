@@ -1,5 +1,5 @@
 -- Reading a row before recovery (paper 01, Numbers given back).
-use Prim.Native.Nat.{ℕ, zero, suc, _+_, _*_}
+use Prim.Native.Nat.{ℕ, _+_}
 use mathlib.Core.List.{List, [], _∷_}
 use mathlib.Core.Bool.{Bool, true, false}
 use lib.ListN.{length, drop}
@@ -9,7 +9,7 @@ use Rattle.endian.specs.Pick.{pick}
 use Rattle.wal.specs.Entry.{entryOf, delete, update}
 use Rattle.wal.specs.Walk.{entries, views}
 use Rattle.wal.specs.declared.EntryView.{EntryView}
-use Rattle.page.specs.Layout.{pageBytes, headBytes, dataType, pagesIn, pageAt, typeOf, bodyOf, slotOff, slotAt, rowHead, xminOf, xmaxOf, deletedOf, padOf, payloadOf}
+use Rattle.page.specs.Layout.{dataType, pagesIn, pageAt, typeOf, slotAt, tupleOffset, rowHead, xminOf, xmaxOf, deletedOf, padOf, payloadOf}
 use Rattle.refusals.specs.Verdict.{verdict, accepted, _then_}
 use Rattle.refusals.specs.declared.Verdict.{Verdict}
 use Rattle.rules.specs.Shape.{ChangeOf, both, isOn, slotOf, keyBytes}
@@ -98,7 +98,7 @@ standingBy log i k d = winner (committed (entries log)) (changesBy (λ v. inLog 
 
 -- and that is where the slot's tuple stands in the pages
 unfoldable pub standingOf : List ℕ → List ℕ → ℕ → ℕ → Standing
-standingOf pages log i k = standingBy log i k (inPages (i * pageBytes + (headBytes + slotOff (bodyOf (pageAt i pages)) k)))
+standingOf pages log i k = standingBy log i k (inPages (tupleOffset i (pageAt i pages) k))
 
 -- the row of a tuple that stands somewhere: its payload is behind the row header; without a tuple, nowhere
 abbrev pub locatedAt : RowHead → Standing → List ℕ → Located

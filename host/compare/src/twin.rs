@@ -47,6 +47,7 @@ pub fn visible(of: oracle::Visible) -> library::Visible {
         page: of.page,
         slot: of.slot,
         length: of.length,
+        offset: of.offset,
     }
 }
 

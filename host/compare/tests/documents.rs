@@ -261,6 +261,7 @@ fn declared_in_code(text: &str) -> BTreeSet<String> {
                 "fn" | "struct" | "enum" | "const" | "mod" | "let" | "mut" | "define"
             );
             let declares = (named && &rest[..start] == " ")
+                || (&rest[..start] == " *" && behind.starts_with('('))
                 || (behind.starts_with(':') && !behind.starts_with("::"))
                 || behind.starts_with(" = ")
                 || (opens && (behind == "," || behind.starts_with('(')));

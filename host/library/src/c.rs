@@ -1,15 +1,17 @@
 //! The functions of include/lumbraquay.h.
 
 extern "C" {
+    pub fn lq_version() -> u32;
+
     pub fn lq_crc32c(s: *const u8, len: usize) -> u32;
 
-    pub fn lq_log_open(log: *const u8, len: usize, at_end: bool, out: *mut u64);
+    pub fn lq_log_open(log: *const u8, len: usize, at_end: bool, out: *mut u64, out_len: usize);
 
-    pub fn lq_log_forward(log: *const u8, len: usize, place: u64, out: *mut u64);
+    pub fn lq_log_forward(log: *const u8, len: usize, place: u64, out: *mut u64, out_len: usize);
 
-    pub fn lq_log_backward(log: *const u8, len: usize, place: u64, out: *mut u64);
+    pub fn lq_log_backward(log: *const u8, len: usize, place: u64, out: *mut u64, out_len: usize);
 
-    pub fn lq_verify(magic: u64, pages: *const u8, len: usize, out: *mut u64);
+    pub fn lq_verify(magic: u64, pages: *const u8, len: usize, out: *mut u64, out_len: usize);
 
     pub fn lq_recover(
         magic: u64,
@@ -21,6 +23,7 @@ extern "C" {
         table: *mut u64,
         table_len: usize,
         out: *mut u64,
+        out_len: usize,
     );
 
     pub fn lq_read_row(
@@ -33,6 +36,7 @@ extern "C" {
         page: u64,
         slot: u16,
         out: *mut u64,
+        out_len: usize,
     );
 
     pub fn lq_next_visible(
@@ -42,6 +46,7 @@ extern "C" {
         page: u64,
         slot: u16,
         out: *mut u64,
+        out_len: usize,
     );
 
     pub fn lq_list_visible(
@@ -53,6 +58,7 @@ extern "C" {
         rows: *mut u64,
         rows_len: usize,
         out: *mut u64,
+        out_len: usize,
     );
 
     pub fn lq_free_map(
@@ -62,5 +68,6 @@ extern "C" {
         map: *mut u8,
         map_len: usize,
         out: *mut u64,
+        out_len: usize,
     );
 }

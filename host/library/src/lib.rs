@@ -20,10 +20,10 @@ pub const LOG_HEAD_BYTES: usize = 32;
 pub const SHORTEST_ENTRY_BYTES: usize = 43;
 
 /// How many numbers of a lent table make one record.
-pub const RECORD_NUMBERS: usize = 4;
+pub const RECORD_NUMBERS: usize = Record::NAMES.len();
 
 /// How many numbers of a listing make one row.
-pub const ROW_NUMBERS: usize = 3;
+pub const ROW_NUMBERS: usize = Listed::NAMES.len();
 
 /// Kinds of a step: an entry; forward the exact end, backward none; a torn tail; damage.
 pub const STEP_ENTRY: u64 = 0;
@@ -48,6 +48,11 @@ macro_rules! numbers {
         #[derive(Clone, Copy, Debug, PartialEq, Eq, Default)]
         pub struct $name {
             $(pub $field: u64),+
+        }
+
+        impl $name {
+            /// The names of its numbers, in their order.
+            pub const NAMES: [&'static str; $count] = [$(stringify!($field)),+];
         }
 
         impl From<[u64; $count]> for $name {
@@ -83,8 +88,8 @@ numbers! {
 }
 
 numbers! {
-    /// A visible row with its tuple's length, or none (all 0).
-    Visible: 6 { number, place, found, page, slot, length }
+    /// A visible row with its tuple's length and offset in the pages, or none (all 0).
+    Visible: 7 { number, place, found, page, slot, length, offset }
 }
 
 numbers! {
@@ -94,8 +99,8 @@ numbers! {
 }
 
 numbers! {
-    /// A row of a listing: where it stands, and its tuple's length.
-    Listed: 3 { page, slot, length }
+    /// A row of a listing: where it stands, and its tuple's length and offset in the pages.
+    Listed: 4 { page, slot, length, offset }
 }
 
 numbers! {
@@ -138,13 +143,18 @@ impl Row {
 
 /// Runs a call that fills an array of numbers. They start as a number that no answer holds, so that one which the call
 /// leaves unwritten is seen.
-fn filled<const N: usize, T: From<[u64; N]>>(call: impl FnOnce(*mut u64)) -> T {
+fn filled<const N: usize, T: From<[u64; N]>>(call: impl FnOnce(*mut u64, usize)) -> T {
     let mut out = [u64::MAX; N];
-    call(out.as_mut_ptr());
+    call(out.as_mut_ptr(), N);
     T::from(out)
 }
 
-// Each call below lends whole slices with their own lengths and an array as long as the header says.
+// Each call below lends whole slices with their own lengths and an array as long as its answer.
+
+/// The version of the C interface that the library has.
+pub fn version() -> u32 {
+    unsafe { c::lq_version() }
+}
 
 /// The CRC32c of the bytes.
 pub fn crc32c(s: &[u8]) -> u32 {
@@ -153,28 +163,32 @@ pub fn crc32c(s: &[u8]) -> u32 {
 
 /// Where a reader of the log starts: byte 32, or the end found by walking. Refuses 2 and 3.
 pub fn log_open(log: &[u8], at_end: bool) -> Verdict {
-    filled(|out| unsafe { c::lq_log_open(log.as_ptr(), log.len(), at_end, out) })
+    filled(|out, out_len| unsafe { c::lq_log_open(log.as_ptr(), log.len(), at_end, out, out_len) })
 }
 
 /// What stands at a place of the log.
 pub fn log_forward(log: &[u8], place: u64) -> Step {
-    filled(|out| unsafe { c::lq_log_forward(log.as_ptr(), log.len(), place, out) })
+    filled(|out, out_len| unsafe {
+        c::lq_log_forward(log.as_ptr(), log.len(), place, out, out_len)
+    })
 }
 
 /// The whole entry that ends at a place of the log, or none.
 pub fn log_backward(log: &[u8], place: u64) -> Step {
-    filled(|out| unsafe { c::lq_log_backward(log.as_ptr(), log.len(), place, out) })
+    filled(|out, out_len| unsafe {
+        c::lq_log_backward(log.as_ptr(), log.len(), place, out, out_len)
+    })
 }
 
 /// Whether every page is good. Refuses 1 and 11.
 pub fn verify(magic: u64, pages: &[u8]) -> Verdict {
-    filled(|out| unsafe { c::lq_verify(magic, pages.as_ptr(), pages.len(), out) })
+    filled(|out, out_len| unsafe { c::lq_verify(magic, pages.as_ptr(), pages.len(), out, out_len) })
 }
 
 /// Mends the pages by the log and fills the table: four numbers a record, read by `records`. Refused, pages and table
 /// keep what they hold.
 pub fn recover(magic: u64, floor: u64, pages: &mut [u8], log: &[u8], table: &mut [u64]) -> Answer {
-    filled(|out| unsafe {
+    filled(|out, out_len| unsafe {
         c::lq_recover(
             magic,
             floor,
@@ -185,6 +199,7 @@ pub fn recover(magic: u64, floor: u64, pages: &mut [u8], log: &[u8], table: &mut
             table.as_mut_ptr(),
             table.len(),
             out,
+            out_len,
         )
     })
 }
@@ -198,7 +213,7 @@ pub fn records(table: &[u64]) -> impl Iterator<Item = Record> + '_ {
 
 /// One row as recovery would leave it. Refuses as recovery does but for 10, then 15.
 pub fn read_row(magic: u64, floor: u64, pages: &[u8], log: &[u8], page: u64, slot: u16) -> Row {
-    filled(|out| unsafe {
+    filled(|out, out_len| unsafe {
         c::lq_read_row(
             magic,
             floor,
@@ -209,19 +224,22 @@ pub fn read_row(magic: u64, floor: u64, pages: &[u8], log: &[u8], page: u64, slo
             page,
             slot,
             out,
+            out_len,
         )
     })
 }
 
 /// The first visible row at or after a slot of a page, or none. Refuses 1 and 11.
 pub fn next_visible(magic: u64, pages: &[u8], page: u64, slot: u16) -> Visible {
-    filled(|out| unsafe { c::lq_next_visible(magic, pages.as_ptr(), pages.len(), page, slot, out) })
+    filled(|out, out_len| unsafe {
+        c::lq_next_visible(magic, pages.as_ptr(), pages.len(), page, slot, out, out_len)
+    })
 }
 
-/// Fills the numbers with visible rows from a slot of a page on, three numbers a row, read by `listed`. Refuses 1 and 11;
+/// Fills the numbers with visible rows from a slot of a page on, four numbers a row, read by `listed`. Refuses 1 and 11;
 /// the numbers then stay.
 pub fn list_visible(magic: u64, pages: &[u8], page: u64, slot: u16, rows: &mut [u64]) -> Listing {
-    filled(|out| unsafe {
+    filled(|out, out_len| unsafe {
         c::lq_list_visible(
             magic,
             pages.as_ptr(),
@@ -231,6 +249,7 @@ pub fn list_visible(magic: u64, pages: &[u8], page: u64, slot: u16, rows: &mut [
             rows.as_mut_ptr(),
             rows.len(),
             out,
+            out_len,
         )
     })
 }
@@ -238,12 +257,12 @@ pub fn list_visible(magic: u64, pages: &[u8], page: u64, slot: u16, rows: &mut [
 /// The rows that numbers hold.
 pub fn listed(rows: &[u64]) -> impl Iterator<Item = Listed> + '_ {
     rows.chunks_exact(ROW_NUMBERS)
-        .map(|row| Listed::from([row[0], row[1], row[2]]))
+        .map(|row| Listed::from([row[0], row[1], row[2], row[3]]))
 }
 
 /// Writes one bit a page, 1 for a free one. Refuses 1, 11 and 16; the map then keeps what it holds.
 pub fn free_map(magic: u64, pages: &[u8], map: &mut [u8]) -> FreeMap {
-    filled(|out| unsafe {
+    filled(|out, out_len| unsafe {
         c::lq_free_map(
             magic,
             pages.as_ptr(),
@@ -251,6 +270,7 @@ pub fn free_map(magic: u64, pages: &[u8], map: &mut [u8]) -> FreeMap {
             map.as_mut_ptr(),
             map.len(),
             out,
+            out_len,
         )
     })
 }

@@ -22,6 +22,7 @@ pub struct Visible {
     pub page: u64,
     pub slot: u64,
     pub length: u64,
+    pub offset: u64,
 }
 
 /// How many rows were listed, and where the first row stands that found no room.
@@ -63,7 +64,8 @@ fn is_visible(tuple: &[u8]) -> bool {
 }
 
 /// The first row on a page of type 1 at or after a (page, slot) with deleted
-/// byte 0, in that order, with its page, slot and tuple length, or none.
+/// byte 0, in that order, with its page, slot, tuple length and the tuple's
+/// offset in the pages, or none.
 pub fn next_visible(magic: u64, pages: &[u8], page: u64, slot: u16) -> Visible {
     if let Err(Refusal { number, place }) = check(magic, pages) {
         return Visible {
@@ -91,6 +93,7 @@ pub fn next_visible(magic: u64, pages: &[u8], page: u64, slot: u16) -> Visible {
                     page: index as u64,
                     slot: candidate as u64,
                     length: length as u64,
+                    offset: (index * PAGE_BYTES + at) as u64,
                 };
             }
         }
@@ -98,8 +101,8 @@ pub fn next_visible(magic: u64, pages: &[u8], page: u64, slot: u16) -> Visible {
     Visible::default()
 }
 
-/// Visible rows from a (page, slot) on, three numbers each: page, slot, tuple length, as many as fit. Says how many, and
-/// the place of the next one, or the count of pages and 0 where there is none.
+/// Visible rows from a (page, slot) on, four numbers each: page, slot, tuple length and the tuple's offset in the pages,
+/// as many as fit. Says how many, and the place of the next one, or the count of pages and 0 where there is none.
 pub fn list_visible(magic: u64, pages: &[u8], page: u64, slot: u16, rows: &mut [u64]) -> Listing {
     if let Err(Refusal { number, place }) = check(magic, pages) {
         return Listing {
@@ -112,7 +115,7 @@ pub fn list_visible(magic: u64, pages: &[u8], page: u64, slot: u16, rows: &mut [
         page: (pages.len() / PAGE_BYTES) as u64,
         ..Listing::default()
     };
-    let mut room = rows.chunks_exact_mut(3);
+    let mut room = rows.chunks_exact_mut(4);
     for (index, own) in pages.chunks_exact(PAGE_BYTES).enumerate() {
         if page_type(own) != DATA {
             continue;
@@ -132,7 +135,8 @@ pub fn list_visible(magic: u64, pages: &[u8], page: u64, slot: u16, rows: &mut [
                 answer.slot = candidate as u64;
                 return answer;
             };
-            row.copy_from_slice(&[index as u64, candidate as u64, length as u64]);
+            let offset = index * PAGE_BYTES + at;
+            row.copy_from_slice(&[index, candidate, length, offset].map(|number| number as u64));
             answer.count += 1;
         }
     }

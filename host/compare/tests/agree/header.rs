@@ -4,40 +4,50 @@
 use std::collections::BTreeMap;
 
 use library::refusal::{DONE, REFUSALS};
+use library::{Answer, FreeMap, Listed, Listing, Record, Row, Step, Verdict, Visible};
 
 const HEADER: &str = include_str!("../../../../include/lumbraquay.h");
 const CODE: &str = include_str!("../../../../crates/refusals/src/lib.rt");
 const RULES: &str = include_str!("../../../../crates/refusals/specs/Refusal.antt");
 
-/// Every `LQ_NAME = number` and `#define LQ_NAME number` of the header.
-fn constants() -> BTreeMap<&'static str, u64> {
+/// Every `LQ_NAME = number`, `#define LQ_NAME number` and `X(number, LQ_NAME, ..)` of the header.
+fn constants() -> BTreeMap<String, u64> {
     let mut constants = BTreeMap::new();
     for line in HEADER.lines() {
         let words: Vec<&str> = line
-            .split([' ', ',', '{', '}'])
+            .split([' ', ',', '{', '}', '('])
             .filter(|it| !it.is_empty())
             .collect();
         for three in words.windows(3) {
             let (name, number) = match three {
-                ["#define", name, number] | [name, "=", number] => (name, number),
+                ["#define", name, number] | [name, "=", number] | ["X", number, name] => {
+                    (name, number)
+                }
                 _ => continue,
             };
             if let (Some(name), Ok(number)) = (name.strip_prefix("LQ_"), number.parse()) {
-                constants.insert(name, number);
+                let other = constants.insert(name.to_string(), number);
+                assert_eq!(other, None, "LQ_{name} stands twice");
             }
         }
     }
     constants
 }
 
+/// The constants of an answer: the index of each of its numbers, and how many it has.
+fn indices(answer: &str, names: &[&str]) -> Vec<(String, u64)> {
+    let index = |(at, name): (u64, &&str)| (format!("{answer}_{}", name.to_uppercase()), at);
+    let count = (format!("{answer}_NUMBERS"), names.len() as u64);
+    (0..).zip(names).map(index).chain([count]).collect()
+}
+
 #[test]
 fn names_and_numbers_are_the_same() {
-    let mut expected: BTreeMap<&str, u64> = BTreeMap::from([
+    let mut expected: BTreeMap<String, u64> = [
+        ("VERSION", u64::from(library::version())),
         ("PAGE_BYTES", library::PAGE_BYTES as u64),
         ("PAGE_LIMIT", library::PAGE_LIMIT as u64),
         ("LOG_LIMIT_BYTES", library::LOG_LIMIT_BYTES as u64),
-        ("RECORD_NUMBERS", library::RECORD_NUMBERS as u64),
-        ("ROW_NUMBERS", library::ROW_NUMBERS as u64),
         ("STEP_ENTRY", library::STEP_ENTRY),
         ("STEP_END", library::STEP_END),
         ("STEP_TORN", library::STEP_TORN),
@@ -49,12 +59,28 @@ fn names_and_numbers_are_the_same() {
         ("FROM_LOG", library::FROM_LOG),
         ("FROM_PAGES", library::FROM_PAGES),
         ("DONE", DONE),
-    ]);
+    ]
+    .map(|(name, number)| (name.to_string(), number))
+    .into();
     expected.extend(
         REFUSALS
             .iter()
-            .map(|refusal| (refusal.name, refusal.number)),
+            .map(|refusal| (refusal.name.to_string(), refusal.number)),
     );
+    for (answer, names) in [
+        ("LOG_OPEN", &Verdict::NAMES[..]),
+        ("LOG_STEP", &Step::NAMES),
+        ("VERIFY", &Verdict::NAMES),
+        ("RECOVER", &Answer::NAMES),
+        ("RECORD", &Record::NAMES),
+        ("READ_ROW", &Row::NAMES),
+        ("NEXT_VISIBLE", &Visible::NAMES),
+        ("LIST_VISIBLE", &Listing::NAMES),
+        ("ROW", &Listed::NAMES),
+        ("FREE_MAP", &FreeMap::NAMES),
+    ] {
+        expected.extend(indices(answer, names));
+    }
     assert_eq!(constants(), expected);
     assert!((1..)
         .zip(REFUSALS)

@@ -1,6 +1,7 @@
-//! The proved library against the second program: random histories and damaged inputs, the sizes at the limits, and the
-//! stack that the library may use.
+//! The proved library against the second program: random histories and damaged inputs, the sizes at the limits, the
+//! stack that the library may use, and its header.
 
+mod caller;
 mod header;
 mod limits;
 mod maps;

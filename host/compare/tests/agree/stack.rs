@@ -34,7 +34,7 @@ fn call_everything() {
     assert_eq!(library::verify(MAGIC, &pages).number, 0);
     assert_eq!(library::next_visible(MAGIC, &pages, 299, 80).found, 0);
     assert_eq!(
-        library::list_visible(MAGIC, &pages, 299, 80, &mut [0; 3]).count,
+        library::list_visible(MAGIC, &pages, 299, 80, &mut [0; 4]).count,
         0
     );
     assert_eq!(library::free_map(MAGIC, &pages, &mut [0; 38]).free, 0);

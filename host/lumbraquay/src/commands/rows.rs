@@ -9,7 +9,7 @@ use crate::input::{head_fields, Pages, Read};
 use crate::json::Json;
 use crate::output::Output;
 use crate::show;
-use crate::tuple::{self, Tuple};
+use crate::tuple::Tuple;
 
 pub const COMMAND: Command = Command {
     name: "rows",
@@ -55,8 +55,8 @@ fn visible(pages: &Pages, first: u64) -> impl Iterator<Item = Row<'_>> {
         Some(rows.collect::<Vec<Listed>>())
     });
     lists.flatten().filter_map(|at| {
-        let page = &pages.bytes[at.page as usize * PAGE_BYTES..][..PAGE_BYTES];
-        tuple::in_slot(page, at.slot as usize).map(|tuple| Row { at, tuple })
+        let bytes = &pages.bytes[at.offset as usize..][..at.length as usize];
+        Tuple::of(bytes).map(|tuple| Row { at, tuple })
     })
 }
 
@@ -105,6 +105,7 @@ fn row_fields(row: &Row) -> Json {
         ("page", row.at.page.into()),
         ("slot", row.at.slot.into()),
         ("length", row.at.length.into()),
+        ("offset", row.at.offset.into()),
         ("xmin", row.tuple.xmin().into()),
         ("xmax", row.tuple.xmax().into()),
         ("payload", Json::text(show::hex(payload))),

@@ -42,10 +42,10 @@ fn rows_are_the_librarys() {
         let mut from = (0, 0);
         for row in done.list("rows") {
             let found = library::next_visible(case.magic, &case.pages, from.0, from.1);
-            let told = (row.number("page"), row.number("slot"), row.number("length"));
+            let told = ["page", "slot", "length", "offset"].map(|name| row.number(name));
             assert_eq!(
                 (found.found, told),
-                (1, (found.page, found.slot, found.length)),
+                (1, [found.page, found.slot, found.length, found.offset]),
                 "seed {}",
                 case.seed
             );

@@ -6,6 +6,7 @@ mod disk;
 mod documents;
 mod ends;
 mod inputs;
+mod install;
 mod json;
 mod kills;
 mod listing;

@@ -129,17 +129,20 @@ fn visible_rows_in_order() {
     let next = |page, slot| {
         let visible = next_visible(MAGIC, &pages, page, slot);
         assert_eq!((visible.number, visible.place), (0, 0));
-        (visible.found, visible.page, visible.slot, visible.length)
+        let at = [visible.found, visible.page, visible.slot];
+        (at, visible.length, visible.offset)
     };
-    assert_eq!(next(0, 0), (1, 1, 1, 30));
-    assert_eq!(next(0, u16::MAX), (1, 1, 1, 30));
-    assert_eq!(next(1, 1), (1, 1, 1, 30));
-    assert_eq!(next(1, 2), (1, 1, 3, 40));
-    assert_eq!(next(1, 4), (1, 4, 0, 24));
-    assert_eq!(next(2, 0), (1, 4, 0, 24));
-    assert_eq!(next(4, 1), (0, 0, 0, 0));
-    assert_eq!(next(5, 0), (0, 0, 0, 0));
-    assert_eq!(next(u64::MAX, u16::MAX), (0, 0, 0, 0));
+    let first = ([1, 1, 1], 30, 16_384 + 16_384 - 30);
+    let last = ([1, 4, 0], 24, 5 * 16_384 - 24);
+    assert_eq!(next(0, 0), first);
+    assert_eq!(next(0, u16::MAX), first);
+    assert_eq!(next(1, 1), first);
+    assert_eq!(next(1, 2), ([1, 1, 3], 40, 2 * 16_384 - 30 - 50 - 40));
+    assert_eq!(next(1, 4), last);
+    assert_eq!(next(2, 0), last);
+    assert_eq!(next(4, 1), ([0, 0, 0], 0, 0));
+    assert_eq!(next(5, 0), ([0, 0, 0], 0, 0));
+    assert_eq!(next(u64::MAX, u16::MAX), ([0, 0, 0], 0, 0));
 }
 
 #[test]

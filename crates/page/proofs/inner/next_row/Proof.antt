@@ -25,7 +25,7 @@ row-on-requires c κs =
     let l = c .before .before in
     let s = l .before .before in
     let p = page-part (s .args .pages .now) (l .loop .i) in
-    (ap length p ∙ page-length (s .args .pages .now) (l .loop .i) (omega arith), rw p (s .pre .at (l .loop .i) (omega arith)))
+    (ap length p ∙ page-length (s .args .pages .now) (l .loop .i) (omega arith), (rw p (s .pre .at (l .loop .i) (omega arith)), omega arith))
 
 -- what page i has
 found : (c : tie.After-row-on Inv-loop μ-loop) → let l = c .before .before .before in let s = l .before .before in

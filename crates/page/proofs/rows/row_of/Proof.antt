@@ -1,8 +1,11 @@
-use mathlib.Core.Path.{_≡_, sym, _∙_}
+use mathlib.Core.Path.{_≡_, sym, ap, _∙_}
+use mathlib.Core.Bool.{true}
 use Prim.Native.Nat.{_-_, _≤_}
 use native.Mathlib.Omega.{arith}
+use lib.ListN.{length}
 use borrow.Author.Needs.{needs}
-use Rattle.page.specs.Rows.{slotRows, firstAt}
+use Rattle.page.specs.Rows.{visible, slotRows, firstAt}
+use Rattle.page.specs.declared.NextRow.the-variants.{At}
 use Rattle.page.specs.Layout.{countOf, slotAt}
 use Rattle.page.proofs.Visibility.{shown-none, shown-some}
 use Rattle.page.proofs.Listing.{slots-from, slot-passed, slot-found, slots-done}
@@ -18,13 +21,22 @@ abbrev μ-loop : tie.MeasureT-loop
 loop-holds : tie.Need-loop-holds Inv-loop μ-loop
 loop-holds c = (omega arith, slots-from _ _ _ _)
 
+-- the slot has a visible row
+met : (c : tie.Then1 Inv-loop μ-loop) → let l = c .before .before .before in let t = slotAt (l .before .before .before .args .page .now) (l .loop .k) in
+    (visible t ≡ true) × (c .before .visible-len .result ≡ length t)
+met c =
+    let l = c .before .before .before in
+    let e = c .before .visible-len .ensures in
+    let h = shown-some (slotAt (l .before .before .before .args .page .now) (l .loop .k)) (λ q. c .if1 .taken (e ∙ q)) in
+    (h .0, e ∙ h .1)
+
+row-in-requires : tie.Need-row-in-requires Inv-loop μ-loop
+row-in-requires c κs = let s = c .before .before .before .before .before .before in ((s .pre .0, omega arith), (s .pre .1 .1, met c .1))
+
 returns : tie.Need-returns Inv-loop μ-loop
 returns c =
-    let l = c .before .before .before .loop in
-    let a = c .before .before .before .before .before .before .args in
-    let h = shown-some (slotAt (a .page .now) (l .k)) (λ e. c .if1 .taken (c .before .visible-len .ensures ∙ e)) in
-    let z = c .before .visible-len .ensures ∙ h .1 in
-    rw z (sym (slot-found _ _ _ _ (l .k) (omega arith) (l .inv .0) (h .0)) ∙ l .inv .1)
+    let l = c .before .before .before .before .loop in
+    ap At (c .row-in .ensures) ∙ sym (slot-found _ _ _ _ (l .k) (omega arith) (l .inv .0) (met (c .before) .0)) ∙ l .inv .1
 
 loop-again : tie.Need-loop-again Inv-loop μ-loop
 loop-again c =
@@ -39,4 +51,4 @@ returns-2 c =
 pub row-of-spec : {M : Type 1} → statement M
 row-of-spec =
     tie.close
-    (tie.spec Inv-loop μ-loop (λ c κs. search needs) loop-holds (λ c κs. search needs) returns (λ c. search needs) (λ c. search needs) loop-again returns-2)
+    (tie.spec Inv-loop μ-loop (λ c κs. search needs) loop-holds (λ c κs. search needs) row-in-requires returns (λ c. search needs) (λ c. search needs) loop-again returns-2)

@@ -9,7 +9,7 @@ returns : tie.Need-returns
 returns c = page-other _ _ _ (omega arith)
 
 row-of-requires : tie.Need-row-of-requires
-row-of-requires c κs = let s = c .before .before .before in (s .pre .0, s .pre .1 (omega arith))
+row-of-requires c κs = let s = c .before .before .before in (s .pre .0, (s .pre .1 .0 (omega arith), s .pre .1 .1))
 
 returns-2 : tie.Need-returns-2
 returns-2 c = c .row-of .ensures ∙ page-data _ _ _ (omega arith)
