@@ -20,6 +20,7 @@ use Rattle.refusals.specs.declared.Verdict.{Verdict}
 use Rattle.page.specs.declared.NextRow.{NextRow}
 use Rattle.page.specs.declared.RowList.{RowList}
 use Rattle.page.specs.declared.NextRow.the-variants.{Refused, At, NoMore}
+use Rattle.rules.specs.Lent.{Lent}
 
 -- lq_version
 abbrev pub version : ℕ
@@ -110,5 +111,5 @@ locatedNumbers l =
     l .head .number ∷ l .head .place ∷ one (l .head .filled) ∷ l .head .xmin .0 ∷ l .head .xmax .0 ∷ l .head .deleted
     ∷ l .source ∷ l .offset ∷ l .length ∷ l .head .pad ∷ []
 
-unfoldable pub readRowNumbers : ℕ → ℕ → List ℕ → List ℕ → ℕ → ℕ → List ℕ
-readRowNumbers magic floor pages log page slot = locatedNumbers (locatedOf magic floor pages log page slot)
+unfoldable pub readRowNumbers : Lent → ℕ → ℕ → List ℕ
+readRowNumbers x page slot = locatedNumbers (locatedOf x page slot)

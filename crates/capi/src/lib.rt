@@ -1,4 +1,5 @@
 // The C interface: see include/lumbraquay.h. Every function is total, and each gives its numbers by `give`.
+ghost use Rattle.rules.specs.Lent.{lent};
 ghost use mathlib.Core.Path.{_≡_};
 ghost use Rattle.crc32c.specs.Crc.{crc32c as crcOf};
 ghost use Rattle.wal.specs.Read.{found};
@@ -243,9 +244,9 @@ pub extern "C" fn lq_recover(
     table: &mut [u64],
     out: &mut [u64],
 )
-    ensures { λ _. ⌜ now (out .exit) ≡ given (answerNumbers (recoverFlat magic floor (now (pages .entry)) (now (log .entry)) (now (table .entry)) .answer)) (now (out .entry)) ⌝ }
-    ensures { λ _. ⌜ now (pages .exit) ≡ recoverFlat magic floor (now (pages .entry)) (now (log .entry)) (now (table .entry)) .pages ⌝ }
-    ensures { λ _. ⌜ now (table .exit) ≡ recoverFlat magic floor (now (pages .entry)) (now (log .entry)) (now (table .entry)) .table ⌝ }
+    ensures { λ _. ⌜ now (out .exit) ≡ given (answerNumbers (recoverFlat (lent magic floor (now (pages .entry)) (now (log .entry))) (now (table .entry)) .answer)) (now (out .entry)) ⌝ }
+    ensures { λ _. ⌜ now (pages .exit) ≡ recoverFlat (lent magic floor (now (pages .entry)) (now (log .entry))) (now (table .entry)) .pages ⌝ }
+    ensures { λ _. ⌜ now (table .exit) ≡ recoverFlat (lent magic floor (now (pages .entry)) (now (log .entry))) (now (table .entry)) .table ⌝ }
 {
     let a = recovery::recover_flat(magic, Lsn(floor), pages, log, table);
     give(&answer_numbers(a), out);
@@ -283,7 +284,7 @@ pub extern "C" fn lq_read_row(
     slot: u16,
     out: &mut [u64],
 )
-    ensures { λ _. ⌜ now (out .exit) ≡ given (readRowNumbers magic floor (now (pages .entry)) (now (log .entry)) page slot) (now (out .entry)) ⌝ }
+    ensures { λ _. ⌜ now (out .exit) ≡ given (readRowNumbers (lent magic floor (now (pages .entry)) (now (log .entry))) page slot) (now (out .entry)) ⌝ }
 {
     let l = recovery::locate_row(magic, Lsn(floor), pages, log, PageNumber(page), slot);
     give(&located_numbers(l), out);

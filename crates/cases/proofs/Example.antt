@@ -33,6 +33,7 @@ use Rattle.cases.specs.Example.{before, steps, whole, log, cut, moment, 
 use Rattle.cases.proofs.Parts.{tuple-bytes, bare, insertable, updatable}
 use Rattle.cases.proofs.Area.{PageOk, EachPage, empty-ok, filled-ok, pages-in, page-at, slot-of, type-of}
 use Rattle.cases.proofs.Pages.{Says, Computes, number}
+use Rattle.rules.specs.Lent.{lent}
 
 -- ---- pages
 
@@ -195,6 +196,6 @@ pub computes : Computes (page 7 (c ∷ []) ∷ page 5 (a ∷ []) ∷ []) whole
 unfolding orderFrom faultAfter isKnown isShaped isBare isImage isKeyed same isChanging inOrder isOpen begun ended clashes sameSlot isOn numberAt numberOf bytesOf
 computes = record { pages = stood-ok; few = lit≤ tt; order = refl; onPage = (lit< tt, (lit< tt, (lit< tt, (lit< tt, (lit< tt, (lit< tt, (lit< tt, (lit< tt, tt)))))))) }
 
-pub ok : recoverOf magic 7 stood (take cut log) (replicate 8 noRecord) .answer .number ≡ 0
+pub ok : recoverOf (lent magic 7 stood (take cut log)) (replicate 8 noRecord) .answer .number ≡ 0
 unfolding topOn topOf changes effectOn decided committed isOn isChanging numberAt numberOf bytesOf beforeOf afterOf
 ok = number 7 (page 7 (c ∷ []) ∷ page 5 (a ∷ []) ∷ []) (take cut log) whole (replicate 8 noRecord) refl says computes (lit≤ tt, (lit≤ tt, tt)) (λ t. lit≤ tt, (λ t. lit≤ tt, tt))

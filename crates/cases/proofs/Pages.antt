@@ -29,11 +29,12 @@ use Rattle.rules.specs.Recover.{pagesFrom, strayFrom, isTight, tightFrom, recov
 use Rattle.rules.specs.declared.Answer.{Answer}
 use Rattle.rules.specs.declared.Record.{Record}
 use Rattle.rules.proofs.OrderLaws.{Every}
-use Rattle.rules.proofs.Verdicts.{Accepted, Lent, accepted-is, none-stray, all-lent}
+use Rattle.rules.proofs.Verdicts.{Accepted, OnData, accepted-is, none-stray, all-lent}
 use Rattle.rules.proofs.Again.{recover-done, recover-refused, page-after as mended-after, slot-after}
 use Rattle.cases.specs.Build.{Page, logOf, magic, pageOf, area}
 use Rattle.cases.proofs.Parts.{on-pages}
 use Rattle.cases.proofs.Area.{PageOk, EachPage, nth, each-nth, size-of, good-of, lsn-of, type-of, count-of, slot-of, pages-in, area-whole, page-at}
+use Rattle.rules.specs.Lent.{lent}
 
 -- the slots that page i is to have, by what its own held
 abbrev pub after : ℕ → Page → List Entry → ℕ → List ℕ
@@ -105,10 +106,10 @@ module _ (floor : ℕ) (ps : List Page) (log : List ℕ) (es : List Entry) (T : 
     unfolding slotsFor
     slots-for = ap₂ tab (ap (λ (n : ℕ). max n (topOf i es)) (count-of i p ok)) (λ j k. decided (committed es) es i k (slot-of i p ok k j))
 
-  lent : (i : ℕ) → 0 < topOf i (entries log) → Lent (area ps) i
-  lent i t =
+  on-data : (i : ℕ) → 0 < topOf i (entries log) → OnData (area ps) i
+  on-data i t =
       let l : i < length ps = on-pages (length ps) es (x .onPage) i (rw (log-is .says) at t) in
-      record { lent = omega (arith, pages-in ps (x .pages)); isData = ap typeOf (here i l) ∙ type-of i (p i l) (ok i l) }
+      record { within = omega (arith, pages-in ps (x .pages)); isData = ap typeOf (here i l) ∙ type-of i (p i l) (ok i l) }
 
   module _ (lsns : EachPage (λ q. q .lsn ≤ max floor (lastLsn es)) ps) (rooms : FitFrom 0 ps es) where
     known : (i : ℕ) → i < length ps → nth ps i .lsn ≤ max floor (lastLsn es)
@@ -123,29 +124,29 @@ module _ (floor : ℕ) (ps : List Page) (log : List ℕ) (es : List Entry) (T : 
           size = size-ok;
           logOk = rw eight log-ok;
           sane = λ i l. let l′ : i < length ps = omega (arith, pages-in ps (x .pages)) in record { sound = sound i l′; lsnKnown = rw (lsn-here i l′, log-is .says) (known i l′) };
-          lent = lent;
+          onData = on-data;
           roomy = λ i l t. let l′ : i < length ps = omega (arith, pages-in ps (x .pages)) in rw (here i l′, log-is .says, slots-for i l′) (fits i l′ (rw (log-is .says) at t));
         }
 
-    pub answer : recoverOf magic floor (area ps) log T .answer ≡ done es (endOf log) (length ps)
+    pub answer : recoverOf (lent magic floor (area ps) log) T .answer ≡ done es (endOf log) (length ps)
     answer =
         recover-done magic floor (area ps) log T (accepted-is (fullAt (length T)) magic floor (area ps) log accepts) .0
         ∙ ap₂ (λ (E : List Entry) (n : ℕ). done E (endOf log) n) (log-is .says) (pages-in ps (x .pages))
 
-    pub number : recoverOf magic floor (area ps) log T .answer .number ≡ 0
+    pub number : recoverOf (lent magic floor (area ps) log) T .answer .number ≡ 0
     unfolding done
     number = ap (λ (r : Answer). r .number) answer
 
-    pub place : recoverOf magic floor (area ps) log T .answer .place ≡ 0
+    pub place : recoverOf (lent magic floor (area ps) log) T .answer .place ≡ 0
     unfolding done
     place = ap (λ (r : Answer). r .place) answer
 
-    pub page-after : (i : ℕ) → i < length ps → pageAt i (recoverOf magic floor (area ps) log T .pages) ≡ mend es i (pageOf i (nth ps i))
+    pub page-after : (i : ℕ) → i < length ps → pageAt i (recoverOf (lent magic floor (area ps) log) T .pages) ≡ mend es i (pageOf i (nth ps i))
     page-after i l =
         mended-after magic floor (area ps) log T accepts i (omega (arith, pages-in ps (x .pages)))
         ∙ ap₂ (λ (E : List Entry) (p : List ℕ). mend E i p) (log-is .says) (here i l)
 
-    pub slot : (i : ℕ) → i < length ps → (k : ℕ) → slotAt (pageAt i (recoverOf magic floor (area ps) log T .pages)) k ≡ after i (nth ps i) es k
+    pub slot : (i : ℕ) → i < length ps → (k : ℕ) → slotAt (pageAt i (recoverOf (lent magic floor (area ps) log) T .pages)) k ≡ after i (nth ps i) es k
     slot i l k =
         slot-after magic floor (area ps) log T accepts i (omega (arith, pages-in ps (x .pages))) k
         ∙ ap₂ (λ (E : List Entry) (p : List ℕ). decided (committed E) E i k (slotAt p k)) (log-is .says) (here i l)
@@ -153,7 +154,7 @@ module _ (floor : ℕ) (ps : List Page) (log : List ℕ) (es : List Entry) (T : 
 
     -- a touched page is packed anew
     pub packed-after : (i : ℕ) (l : i < length ps) → 0 < topOf i es
-        → (pageAt i (recoverOf magic floor (area ps) log T .pages) ≡ packed (headFor (committed es) es i (pageOf i (nth ps i))) (slotsAfter i (nth ps i) es))
+        → (pageAt i (recoverOf (lent magic floor (area ps) log) T .pages) ≡ packed (headFor (committed es) es i (pageOf i (nth ps i))) (slotsAfter i (nth ps i) es))
         × (length (headFor (committed es) es i (pageOf i (nth ps i)) .reserved) ≡ 28)
     unfolding mend mendBy
     packed-after i l t = (
@@ -169,13 +170,13 @@ module _ (floor : ℕ) (ps : List Page) (log : List ℕ) (es : List Entry) (T : 
 
   module _ (one : length ps ≡ 1) where
     -- the verdict, once size and log are accepted
-    pages-next : recoverVerdict (fullAt 8) magic floor (area ps) log
+    pages-next : recoverVerdict (fullAt 8) (lent magic floor (area ps) log)
         ≡ (pagesFrom magic floor (lastLsn es) (area ps) 1 0 then strayFrom (area ps) es first then tightFrom es (area ps) 1 0)
     unfolding recoverVerdict
     pages-next = rw (size-ok, eq-eqb _ _ log-ok, pages-in ps (x .pages), one, log-is .says)
 
     -- 12
-    pub above : max floor (lastLsn es) < nth ps 0 .lsn → recoverVerdict (fullAt 8) magic floor (area ps) log ≡ verdict 12 0
+    pub above : max floor (lastLsn es) < nth ps 0 .lsn → recoverVerdict (fullAt 8) (lent magic floor (area ps) log) ≡ verdict 12 0
     unfolding firstBad pageVerdict
     above h =
         let l : 0 < length ps = omega arith in
@@ -183,26 +184,26 @@ module _ (floor : ℕ) (ps : List Page) (log : List ℕ) (es : List Entry) (T : 
         pages-next ∙ rw (sound 0 l, t)
 
     -- 14
-    pub tight : nth ps 0 .lsn ≤ max floor (lastLsn es) → 0 < topOf 0 es → bodyBytes < roomFor (slotsAfter 0 (nth ps 0) es) → recoverVerdict (fullAt 8) magic floor (area ps) log ≡ verdict 14 0
+    pub tight : nth ps 0 .lsn ≤ max floor (lastLsn es) → 0 < topOf 0 es → bodyBytes < roomFor (slotsAfter 0 (nth ps 0) es) → recoverVerdict (fullAt 8) (lent magic floor (area ps) log) ≡ verdict 14 0
     unfolding firstBad pageVerdict tightFrom isTight
     tight known touched over =
         let l : 0 < length ps = omega arith in
         let t : ltb (max floor (lastLsn es)) (lsnOf (pageAt 0 (area ps))) ≡ false = le-ltb (max floor (lastLsn es)) (lsnOf (pageAt 0 (area ps))) (rw (lsn-here 0 l) known) in
-        let s : strayFrom (area ps) es first .number ≡ 0 = none-stray (area ps) es first (all-lent (area ps) es (λ i h. lent i (rw (log-is .says) h))) in
+        let s : strayFrom (area ps) es first .number ≡ 0 = none-stray (area ps) es first (all-lent (area ps) es (λ i h. on-data i (rw (log-is .says) h))) in
         let r : ltb bodyBytes (roomFor (slotsFor (committed es) es 0 (pageAt 0 (area ps)))) ≡ true = lt-ltb bodyBytes (roomFor (slotsFor (committed es) es 0 (pageAt 0 (area ps)))) (rw (here 0 l, slots-for 0 l) over) in
         pages-next ∙ rw (sound 0 l, t, eq-eqb _ _ s, lt-ltb 0 (topOf 0 es) touched, r)
 
 -- what a refusal answers
-pub refusal : (floor : ℕ) (pages log : List ℕ) (T : List Record) → length T ≡ 8 → (n p : ℕ) → recoverVerdict (fullAt 8) magic floor pages log ≡ verdict (suc n) p
-    → (recoverOf magic floor pages log T .answer .number ≡ suc n) × (recoverOf magic floor pages log T .answer .place ≡ p)
+pub refusal : (floor : ℕ) (pages log : List ℕ) (T : List Record) → length T ≡ 8 → (n p : ℕ) → recoverVerdict (fullAt 8) (lent magic floor pages log) ≡ verdict (suc n) p
+    → (recoverOf (lent magic floor pages log) T .answer .number ≡ suc n) × (recoverOf (lent magic floor pages log) T .answer .place ≡ p)
 refusal floor pages log T eight n p h =
-    let h′ : recoverVerdict (fullAt (length T)) magic floor pages log ≡ verdict (suc n) p = rw eight h in
+    let h′ : recoverVerdict (fullAt (length T)) (lent magic floor pages log) ≡ verdict (suc n) p = rw eight h in
     let r = recover-refused magic floor pages log T (rw h′ (eqb·suc-zero n)) in
     (ap (λ (x : Recovered). x .answer .number) r ∙ ap (λ (v : Verdict). v .number) h′, ap (λ (x : Recovered). x .answer .place) r ∙ ap (λ (v : Verdict). v .place) h′)
 
 -- an order rule that is broken
 pub broken : (floor : ℕ) (ps : List Page) (es : List Entry) (n p : ℕ) → EachPage PageOk ps → length ps ≤ pageLimit → AllEncodable es → 32 + sizesOf es ≤ logLimit
-    → orderFrom (fullAt 8) [] es 32 ≡ verdict (suc n) p → recoverVerdict (fullAt 8) magic floor (area ps) (logOf es) ≡ verdict (suc n) p
+    → orderFrom (fullAt 8) [] es 32 ≡ verdict (suc n) p → recoverVerdict (fullAt 8) (lent magic floor (area ps) (logOf es)) ≡ verdict (suc n) p
 unfolding recoverVerdict logVerdict sizeWrong
 broken floor ps es n p ok few fs short h =
     let w = area-whole ps ok in

@@ -33,6 +33,7 @@ use Rattle.cases.specs.Starred.{Meets, run, input, answers, tail, holds,
 use Rattle.cases.proofs.Parts.{tuple-bytes, tuple-length, bare, insertable, deletable, updatable}
 use Rattle.cases.proofs.Area.{PageOk, empty-ok, filled-ok}
 use Rattle.cases.proofs.Pages.{Says, plain, Computes, number, place, slot, packed-after, above, tight, refusal, broken}
+use Rattle.rules.specs.Lent.{lent}
 
 -- ---- the pages
 
@@ -183,15 +184,15 @@ module _ (s : List ℕ) (head : headerFault s ≡ 0) (r : Reading) (read : readA
   no-views : views s ≡ []
   no-views = none s 32 (λ v q. never v (sym read ∙ q))
 
-  ends : recoverVerdict (fullAt 8) magic 0 [] s ≡ (endVerdict r 32 then accepted)
+  ends : recoverVerdict (fullAt 8) (lent magic 0 [] s) ≡ (endVerdict r 32 then accepted)
   unfolding recoverVerdict logVerdict sizeWrong orderFrom firstBad strayFrom tightFrom
   ends = rw (head, no-views, read)
 
   tail-is : endVerdict r 32 ≡ accepted → Meets (run (input 0 [] s)) (tail 32)
   unfolding done
   tail-is e =
-      let a : recoverVerdict (fullAt 8) magic 0 [] s ≡ accepted = ends ∙ ap (λ (w : Verdict). w then accepted) e in
-      let v : recoverVerdict (fullAt 8) magic 0 [] s .number ≡ 0 = ap (λ (w : Verdict). w .number) a in
+      let a : recoverVerdict (fullAt 8) (lent magic 0 [] s) ≡ accepted = ends ∙ ap (λ (w : Verdict). w then accepted) e in
+      let v : recoverVerdict (fullAt 8) (lent magic 0 [] s) .number ≡ 0 = ap (λ (w : Verdict). w .number) a in
       let d = recover-done magic 0 [] s (replicate 8 noRecord) v .0 in
       (ap (λ (x : Answer). x .number) d, ap (λ (x : Answer). x .tail) d ∙ rw no-views)
 

@@ -18,9 +18,10 @@ use Rattle.cases.specs.Example.{log, cut, whole, stood}
 use Rattle.cases.proofs.Area.{page-at, slot-of}
 use Rattle.cases.proofs.Pages.{answer, slot}
 use Rattle.cases.proofs.Example.{says, computes, ok, stood-ok, end-cut}
+use Rattle.rules.specs.Lent.{lent}
 
 abbrev recovered : Recovered
-recovered = recoverOf magic 7 stood (take cut log) (replicate 8 noRecord)
+recovered = recoverOf (lent magic 7 stood (take cut log)) (replicate 8 noRecord)
 
 -- one that always refuses
 pub not-always-refused : recovered .answer .number ≡ 0

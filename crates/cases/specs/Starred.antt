@@ -9,6 +9,7 @@ use Rattle.page.specs.Layout.{pageAt, bodyOf, slotAt, slotOff, freeStartOf, fre
 use Rattle.rules.specs.Recover.{Recovered, recoverOf}
 use Rattle.rules.specs.declared.Record.{Record}
 use Rattle.cases.specs.Build.{begins, commits, rollsBack, inserts, deletes, updates, logOf, magic, page, area, tuple}
+use Rattle.rules.specs.Lent.{lent}
 
 -- what is lent: the floor, the pages and the log; the table has eight records
 pub record Input : Type 0 where
@@ -20,7 +21,7 @@ abbrev pub noRecord : Record
 noRecord = record { number = record { 0 = 0 }; first = record { 0 = 0 }; outcome = 0; changes = 0 }
 
 abbrev pub run : Input → Recovered
-run x = recoverOf magic (x .floor) (x .pages) (x .log) (replicate 8 noRecord)
+run x = recoverOf (lent magic (x .floor) (x .pages) (x .log)) (replicate 8 noRecord)
 
 -- what is expected of page 0 and of the answer
 pub data Expected : Type 0 where

@@ -26,7 +26,7 @@ use Rattle.rules.specs.Mend.{topOf}
 use Rattle.rules.specs.Recover.{isStray, strayFrom}
 use Rattle.rules.proofs.OrderLaws.{Every}
 use Rattle.rules.proofs.Tests.{either-false, false-true}
-use Rattle.rules.proofs.Verdicts.{Lent, all-lent}
+use Rattle.rules.proofs.Verdicts.{OnData, all-lent}
 use Rattle.cells.specs.Cell.{startOf, Starts}
 use Rattle.cells.specs.Measure.{isBeyond, FirstBeyond}
 use Rattle.cells.proofs.CellLaws.{start-next}
@@ -109,11 +109,11 @@ stray-nowhere pages s n end r starts lent ends f at-end t d =
     none : any (isBeyond n) (entries s) ≡ false
     none = rw (at-end, ← ends, before-end s) at (f .none)
 
-    all : (i : ℕ) → 0 < topOf i (entries s) → Lent pages i
+    all : (i : ℕ) → 0 < topOf i (entries s) → OnData pages i
     all i h =
         let next : startOf (entries s) (i + 1) ≡ startOf (entries s) i + topOf i (entries s) = rw (add-one i) (start-next (entries s) i) in
         elim (decLt i n) [
-          | yes l ↦ record { lent = omega arith; isData = type-at pages i ∙ d .at i l (λ e. omega (arith, t .at i (omega arith), t .at (i + 1) (omega arith))) }
+          | yes l ↦ record { within = omega arith; isData = type-at pages i ∙ d .at i l (λ e. omega (arith, t .at i (omega arith), t .at (i + 1) (omega arith))) }
           | no l ↦ absurd (omega (arith, untouched n i (entries s) none (omega arith)))
         ]
 

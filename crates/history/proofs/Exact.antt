@@ -17,9 +17,10 @@ use Rattle.rules.proofs.Again.{zero-accepted, slot-after}
 use Rattle.history.specs.History.{start, ledger}
 use Rattle.history.specs.Demand3.{History, Stands, HasFelt}
 use Rattle.history.proofs.OneSlot.{slot-recovers, fed-last}
+use Rattle.rules.specs.Lent.{lent}
 
 module _ (h : History) (magic floor : ℕ) (moment : ℕ → ℕ) (P : List ℕ) (c : ℕ) (table : List Record)
-    (stands : Stands h moment P) (felt : HasFelt h moment P c) (ok : recoverOf magic floor P (take c (h .log)) table .answer .number ≡ 0) where
+    (stands : Stands h moment P) (felt : HasFelt h moment P c) (ok : recoverOf (lent magic floor P (take c (h .log))) table .answer .number ≡ 0) where
   abbrev E : List Entry
   E = entries (take c (h .log))
 
@@ -30,7 +31,7 @@ module _ (h : History) (magic floor : ℕ) (moment : ℕ → ℕ) (P : List ℕ)
       (r .0, r .1 ∙ ap entries (take-all (max c (length (h .log))) (h .log) (omega arith)))
 
   pub exact : (i k : ℕ) → i < pagesIn P → typeOf (pageAt i P) ≡ dataType
-      → slotAt (pageAt i (recoverOf magic floor P (take c (h .log)) table .pages)) k ≡ ledger (h .pages) E i k
+      → slotAt (pageAt i (recoverOf (lent magic floor P (take c (h .log))) table .pages)) k ≡ ledger (h .pages) E i k
   unfolding decided ledger
   exact i k l d =
       slot-after magic floor P (take c (h .log)) table (zero-accepted magic floor P (take c (h .log)) table ok) i l k

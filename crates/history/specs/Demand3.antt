@@ -12,6 +12,7 @@ use Rattle.rules.specs.Mend.{topOf}
 use Rattle.rules.specs.Recover.{recoverOf}
 use Rattle.rules.specs.declared.Record.{Record}
 use Rattle.history.specs.History.{Step, loggedIn, run, Honest, start, ledger}
+use Rattle.rules.specs.Lent.{lent}
 
 -- An honest history: its starting pages, its steps, and its log, whose entries are those that the steps logged. Nothing is asked of changes on pages that are not of type 1.
 pub record History : Type 0 where
@@ -39,13 +40,13 @@ pub record Mixed (lent after Q : List ℕ) : Type 0 where
 pub record Demand3 (h : History) : Type 0 where
   -- What recovery leaves in each slot of each page of type 1 is what the ledger of the cut says.
   pub exact : (magic floor : ℕ) (moment : ℕ → ℕ) (P : List ℕ) (c : ℕ) (table : List Record) → Stands h moment P → HasFelt h moment P c
-      → recoverOf magic floor P (take c (h .log)) table .answer .number ≡ 0
+      → recoverOf (lent magic floor P (take c (h .log))) table .answer .number ≡ 0
       → (i k : ℕ) → i < pagesIn P → typeOf (pageAt i P) ≡ dataType
-      → slotAt (pageAt i (recoverOf magic floor P (take c (h .log)) table .pages)) k ≡ ledger (h .pages) (entries (take c (h .log))) i k
+      → slotAt (pageAt i (recoverOf (lent magic floor P (take c (h .log))) table .pages)) k ≡ ledger (h .pages) (entries (take c (h .log))) i k
   -- Where the run from a cut c₂ is accepted, it is accepted again, with the same answer and the same bytes, after a run from a cut c₁ that is no longer was stopped anywhere
   -- or refused. The runs take the same magic and as many records; the earlier may have had another floor. The buffers are bytes.
   pub repeats : (magic floor₁ floor : ℕ) (P : List ℕ) (c₁ c₂ : ℕ) (T₁ T₂ T₃ : List Record) → Bytes P → Bytes (h .log) → c₁ ≤ c₂ → length T₁ ≡ length T₂ → length T₃ ≡ length T₂
-      → recoverOf magic floor P (take c₂ (h .log)) T₂ .answer .number ≡ 0
-      → (Q : List ℕ) → Mixed P (recoverOf magic floor₁ P (take c₁ (h .log)) T₁ .pages) Q
-      → (recoverOf magic floor Q (take c₂ (h .log)) T₃ .answer ≡ recoverOf magic floor P (take c₂ (h .log)) T₂ .answer)
-      × (recoverOf magic floor Q (take c₂ (h .log)) T₃ .pages ≡ recoverOf magic floor P (take c₂ (h .log)) T₂ .pages)
+      → recoverOf (lent magic floor P (take c₂ (h .log))) T₂ .answer .number ≡ 0
+      → (Q : List ℕ) → Mixed P (recoverOf (lent magic floor₁ P (take c₁ (h .log))) T₁ .pages) Q
+      → (recoverOf (lent magic floor Q (take c₂ (h .log))) T₃ .answer ≡ recoverOf (lent magic floor P (take c₂ (h .log))) T₂ .answer)
+      × (recoverOf (lent magic floor Q (take c₂ (h .log))) T₃ .pages ≡ recoverOf (lent magic floor P (take c₂ (h .log))) T₂ .pages)

@@ -22,6 +22,7 @@ use Rattle.rules.proofs.OrderLaws.{InTurn, in-turn}
 use Rattle.refusals.proofs.Then.{then-refused, then-accepted, then-zero}
 use Rattle.order.specs.First.{told}
 use Rattle.fates.specs.Fate.{Ordered}
+use Rattle.rules.specs.Lent.{lent}
 
 -- a number other than 0 is told as it is
 pub told-refused : (n at : ℕ) → (n ≡ 0 → ⊥) → told n at ≡ verdict n at
@@ -88,44 +89,44 @@ begins-fit records log h = begins-few records [] (entries log) (in-turn (fullAt 
 
 -- ---- refusal by refusal
 module _ (full : ℕ → Bool) (magic floor : ℕ) (pages log : List ℕ) where
-  pub judge-size : sizeWrong pages ≡ true → verdict 1 0 ≡ recoverVerdict full magic floor pages log
+  pub judge-size : sizeWrong pages ≡ true → verdict 1 0 ≡ recoverVerdict full (lent magic floor pages log)
   unfolding recoverVerdict
   judge-size h = sym (rw h)
 
   module _ (size : sizeWrong pages ≡ false) where
-    past-size : recoverVerdict full magic floor pages log
+    past-size : recoverVerdict full (lent magic floor pages log)
         ≡ (logVerdict full log then pagesFrom magic floor (lastLsn (entries log)) pages (pagesIn pages) 0 then strayFrom pages (entries log) first then tightFrom (entries log) pages (pagesIn pages) 0)
     unfolding recoverVerdict
     past-size = rw size
 
-    pub judge-log : (v : Verdict) → v ≡ logVerdict full log → (v .number ≡ 0 → ⊥) → v ≡ recoverVerdict full magic floor pages log
+    pub judge-log : (v : Verdict) → v ≡ logVerdict full log → (v .number ≡ 0 → ⊥) → v ≡ recoverVerdict full (lent magic floor pages log)
     judge-log v e n = sym (past-size ∙ rw (← e) (then-refused v _ n))
 
     module _ (logOk : logVerdict full log .number ≡ 0) where
-      past-log : recoverVerdict full magic floor pages log
+      past-log : recoverVerdict full (lent magic floor pages log)
           ≡ (pagesFrom magic floor (lastLsn (entries log)) pages (pagesIn pages) 0 then strayFrom pages (entries log) first then tightFrom (entries log) pages (pagesIn pages) 0)
       past-log = past-size ∙ then-accepted (logVerdict full log) _ logOk
 
-      pub judge-pages : (v : Verdict) → v ≡ pagesFrom magic floor (lastLsn (entries log)) pages (pagesIn pages) 0 → (v .number ≡ 0 → ⊥) → v ≡ recoverVerdict full magic floor pages log
+      pub judge-pages : (v : Verdict) → v ≡ pagesFrom magic floor (lastLsn (entries log)) pages (pagesIn pages) 0 → (v .number ≡ 0 → ⊥) → v ≡ recoverVerdict full (lent magic floor pages log)
       judge-pages v e n = sym (past-log ∙ rw (← e) (then-refused v _ n))
 
       module _ (pagesOk : pagesFrom magic floor (lastLsn (entries log)) pages (pagesIn pages) 0 .number ≡ 0) where
-        past-pages : recoverVerdict full magic floor pages log ≡ (strayFrom pages (entries log) first then tightFrom (entries log) pages (pagesIn pages) 0)
+        past-pages : recoverVerdict full (lent magic floor pages log) ≡ (strayFrom pages (entries log) first then tightFrom (entries log) pages (pagesIn pages) 0)
         past-pages = past-log ∙ then-accepted (pagesFrom magic floor (lastLsn (entries log)) pages (pagesIn pages) 0) _ pagesOk
 
-        pub judge-stray : (at end : ℕ) → at < end → strayFrom pages (entries log) first ≡ pick (ltb at end) (verdict 13 at) accepted → verdict 13 at ≡ recoverVerdict full magic floor pages log
+        pub judge-stray : (at end : ℕ) → at < end → strayFrom pages (entries log) first ≡ pick (ltb at end) (verdict 13 at) accepted → verdict 13 at ≡ recoverVerdict full (lent magic floor pages log)
         judge-stray at end l e =
             let z : strayFrom pages (entries log) first ≡ verdict 13 at = e ∙ rw (lt-ltb at end l) in
             sym (past-pages ∙ rw z)
 
         module _ (strayOk : strayFrom pages (entries log) first .number ≡ 0) where
-          past-stray : recoverVerdict full magic floor pages log ≡ tightFrom (entries log) pages (pagesIn pages) 0
+          past-stray : recoverVerdict full (lent magic floor pages log) ≡ tightFrom (entries log) pages (pagesIn pages) 0
           past-stray = past-pages ∙ then-accepted (strayFrom pages (entries log) first) _ strayOk
 
-          pub judge-tight : (i : ℕ) → i < pagesIn pages → tightFrom (entries log) pages (pagesIn pages) 0 ≡ pick (ltb i (pagesIn pages)) (verdict 14 i) accepted → verdict 14 i ≡ recoverVerdict full magic floor pages log
+          pub judge-tight : (i : ℕ) → i < pagesIn pages → tightFrom (entries log) pages (pagesIn pages) 0 ≡ pick (ltb i (pagesIn pages)) (verdict 14 i) accepted → verdict 14 i ≡ recoverVerdict full (lent magic floor pages log)
           judge-tight i l e = sym (past-stray ∙ e ∙ rw (lt-ltb i (pagesIn pages) l))
 
-          pub judge-done : (i : ℕ) → pagesIn pages ≤ i → tightFrom (entries log) pages (pagesIn pages) 0 ≡ pick (ltb i (pagesIn pages)) (verdict 14 i) accepted → accepted ≡ recoverVerdict full magic floor pages log
+          pub judge-done : (i : ℕ) → pagesIn pages ≤ i → tightFrom (entries log) pages (pagesIn pages) 0 ≡ pick (ltb i (pagesIn pages)) (verdict 14 i) accepted → accepted ≡ recoverVerdict full (lent magic floor pages log)
           judge-done i l e = sym (past-stray ∙ e ∙ rw (le-ltb i (pagesIn pages) l))
 
 pub stray-ok : (pages : List ℕ) (es : List Entry) (at end : ℕ) → end ≤ at → strayFrom pages es first ≡ pick (ltb at end) (verdict 13 at) accepted → strayFrom pages es first .number ≡ 0

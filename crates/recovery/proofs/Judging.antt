@@ -30,6 +30,7 @@ use Rattle.images.specs.Page.{Sound, Touched}
 use Rattle.recovery.specs.Judgement.{Judgement, Gathered}
 use Rattle.recovery.specs.declared.Judged.{Judged as JudgedLog}
 use Rattle.recovery.proofs.JudgeLaws.{told-refused, judge-log}
+use Rattle.rules.specs.Lent.{lent}
 
 -- ---- what an accepted log is
 
@@ -58,7 +59,7 @@ touched-ok magic floor last pages log n e p s =
     record {
       at = λ i a b t.
           let l = lent-all pages i (entries log) (stray-none pages (entries log) first s) t in
-          sane-sound (pages-sane magic floor last pages (pagesIn pages) 0 p i (omega arith) (omega (arith, l .lent))) (l .lent) (l .isData);
+          sane-sound (pages-sane magic floor last pages (pagesIn pages) 0 p i (omega arith) (omega (arith, l .within))) (l .within) (l .isData);
     }
 
 -- ---- the verdict, told
@@ -71,7 +72,7 @@ pub gathered-none : {pages log lists fronts space : List ℕ} {r : JudgedLog} �
 gathered-none h = record { begin = λ z. absurd (h z); listed = λ z. absurd (h z); counts = λ z. absurd (h z) }
 
 module _ (full : ℕ → Bool) (magic floor : ℕ) (pages log starts lasts : List ℕ) where
-  pub judged-refused : (n at : ℕ) → (n ≡ 0 → ⊥) → verdict n at ≡ recoverVerdict full magic floor pages log
+  pub judged-refused : (n at : ℕ) → (n ≡ 0 → ⊥) → verdict n at ≡ recoverVerdict full (lent magic floor pages log)
       → Judgement full magic floor pages log starts lasts (record { number = n; place = at; last = record { 0 = 0 } })
   judged-refused n at h e =
       record {
@@ -93,7 +94,7 @@ module _ (full : ℕ → Bool) (magic floor : ℕ) (pages log starts lasts : Lis
           touched = λ z. absurd (h z);
         }
 
-    pub judged-all : w .number ≡ 0 → n ≡ pagesIn pages → accepted ≡ recoverVerdict full magic floor pages log → Judgement full magic floor pages log starts lasts w
+    pub judged-all : w .number ≡ 0 → n ≡ pagesIn pages → accepted ≡ recoverVerdict full (lent magic floor pages log) → Judgement full magic floor pages log starts lasts w
     judged-all z e v =
         record {
           verdict = rw (eq-eqb (w .number) 0 z) v;

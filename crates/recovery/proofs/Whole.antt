@@ -17,20 +17,21 @@ use Rattle.rules.specs.declared.Record.{Record}
 use Rattle.rules.proofs.Again.{answer-zero}
 use Rattle.fates.specs.Fate.{Ordered}
 use Rattle.recovery.proofs.Outcome.{sure, by-refused, by-done, by-answer, by-pages, answer-refused, answer-tail, begins-of}
+use Rattle.rules.specs.Lent.{lent}
 
 module _ (magic floor : ℕ) (pages log : List ℕ) (table : List Record) where
   abbrev Judged : Verdict
-  Judged = recoverVerdict (fullAt (length table)) magic floor pages log
+  Judged = recoverVerdict (fullAt (length table)) (lent magic floor pages log)
 
-  pub whole-answer : recoverBy (recoverVerdict (fullAt (length table)) magic floor pages log) pages log [] .answer ≡ recoverOf magic floor pages log table .answer
+  pub whole-answer : recoverBy (recoverVerdict (fullAt (length table)) (lent magic floor pages log)) pages log [] .answer ≡ recoverOf (lent magic floor pages log) table .answer
   unfolding recoverOf
   whole-answer = by-answer Judged pages log [] table
 
-  pub whole-pages : recoverBy (recoverVerdict (fullAt (length table)) magic floor pages log) pages log [] .pages ≡ recoverOf magic floor pages log table .pages
+  pub whole-pages : recoverBy (recoverVerdict (fullAt (length table)) (lent magic floor pages log)) pages log [] .pages ≡ recoverOf (lent magic floor pages log) table .pages
   unfolding recoverOf
   whole-pages = by-pages Judged pages log [] table
 
-  module _ (a : Answer) (e : a ≡ recoverBy (recoverVerdict (fullAt (length table)) magic floor pages log) pages log [] .answer) where
+  module _ (a : Answer) (e : a ≡ recoverBy (recoverVerdict (fullAt (length table)) (lent magic floor pages log)) pages log [] .answer) where
     zero : a .number ≡ 0 → Judged .number ≡ 0
     zero z = answer-zero Judged pages log [] (sym (ap (λ (b : Answer). b .number) e) ∙ z)
 
@@ -44,7 +45,7 @@ module _ (magic floor : ℕ) (pages log : List ℕ) (table : List Record) where
         (sym (ap (λ (b : Answer). b .tail) e ∙ answer-tail Judged pages log [] h), sure _ _ _ _ _ h .small, begins-of (length table) magic floor pages log h)
 
     -- what it leaves
-    pub whole-table : pick (eqb (a .number) 0) (tableAfter (entries log) table) table ≡ recoverOf magic floor pages log table .table
+    pub whole-table : pick (eqb (a .number) 0) (tableAfter (entries log) table) table ≡ recoverOf (lent magic floor pages log) table .table
     unfolding recoverOf
     whole-table = go (eqb (a .number) 0) refl
       where

@@ -5,6 +5,7 @@ use Rattle.rules.specs.Recover.{Recovered, recoverOf}
 use Rattle.rules.specs.declared.Answer.{Answer}
 use Rattle.rules.specs.declared.Record.{Record}
 use Rattle.tally.specs.Flat.{flat}
+use Rattle.rules.specs.Lent.{Lent}
 
 -- the records of a flat table, and the numbers behind the last whole one
 unfoldable pub rows : List ℕ → List Record
@@ -30,5 +31,5 @@ pub record FlatRecovered : Type 0 where
 abbrev pub flattened : Recovered → List ℕ → FlatRecovered
 flattened r table = record { answer = r .answer; pages = r .pages; table = flat (r .table) ++ left table }
 
-unfoldable pub recoverFlat : ℕ → ℕ → List ℕ → List ℕ → List ℕ → FlatRecovered
-recoverFlat magic floor pages log table = flattened (recoverOf magic floor pages log (rows table)) table
+unfoldable pub recoverFlat : Lent → List ℕ → FlatRecovered
+recoverFlat x table = flattened (recoverOf x (rows table)) table

@@ -18,10 +18,11 @@ use Rattle.cells.specs.Listing.{Lists}
 use Rattle.cells.specs.Measure.{Lasts}
 use Rattle.decide.specs.Lists.{Listed}
 use Rattle.recovery.specs.declared.Judged.{Judged}
+use Rattle.rules.specs.Lent.{lent}
 
 -- the verdict; accepted, where the log ends and its last LSN, where the cells of pages start, and the places of the last changes on them
 pub record Judgement (full : ℕ → Bool) (magic floor : ℕ) (pages log starts lasts : List ℕ) (w : Walked) : Type 0 where
-  pub verdict : told (w .number) (w .place) ≡ recoverVerdict full magic floor pages log
+  pub verdict : told (w .number) (w .place) ≡ recoverVerdict full (lent magic floor pages log)
   pub end : w .number ≡ 0 → w .place ≡ endOf log
   pub last : w .number ≡ 0 → w .last .0 ≡ lastLsn (entries log)
   pub begin : w .number ≡ 0 → Starts (entries log) (pagesIn pages) starts

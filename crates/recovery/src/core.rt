@@ -1,4 +1,5 @@
 // Recovery but for its table: judged, counted, mended.
+ghost use Rattle.rules.specs.Lent.{lent};
 ghost use mathlib.Core.Path.{_≡_};
 ghost use mathlib.Core.List.{[]};
 ghost use Rattle.crc32c.specs.Tables.{Tables};
@@ -71,8 +72,8 @@ fn run(
     space: &mut [u8; 655360],
 ) -> Answer
     requires { ⌜ Tables (now t) ⌝ }
-    ensures { λ r. ⌜ r ≡ recoverBy (recoverVerdict (fullAt records) magic (floor .0) (now (pages .entry)) (now (log .entry))) (now (pages .entry)) (now (log .entry)) [] .answer ⌝ }
-    ensures { λ _. ⌜ now (pages .exit) ≡ recoverBy (recoverVerdict (fullAt records) magic (floor .0) (now (pages .entry)) (now (log .entry))) (now (pages .entry)) (now (log .entry)) [] .pages ⌝ }
+    ensures { λ r. ⌜ r ≡ recoverBy (recoverVerdict (fullAt records) (lent magic (floor .0) (now (pages .entry)) (now (log .entry)))) (now (pages .entry)) (now (log .entry)) [] .answer ⌝ }
+    ensures { λ _. ⌜ now (pages .exit) ≡ recoverBy (recoverVerdict (fullAt records) (lent magic (floor .0) (now (pages .entry)) (now (log .entry)))) (now (pages .entry)) (now (log .entry)) [] .pages ⌝ }
 {
     let j = judge(
         t,
@@ -99,8 +100,8 @@ fn run(
 
 // Recovery for a table of so many records, which is not written.
 pub fn recover(magic: u64, floor: Lsn, pages: &mut [u8], log: &[u8], records: u64) -> Answer
-    ensures { λ r. ⌜ r ≡ recoverBy (recoverVerdict (fullAt records) magic (floor .0) (now (pages .entry)) (now (log .entry))) (now (pages .entry)) (now (log .entry)) [] .answer ⌝ }
-    ensures { λ _. ⌜ now (pages .exit) ≡ recoverBy (recoverVerdict (fullAt records) magic (floor .0) (now (pages .entry)) (now (log .entry))) (now (pages .entry)) (now (log .entry)) [] .pages ⌝ }
+    ensures { λ r. ⌜ r ≡ recoverBy (recoverVerdict (fullAt records) (lent magic (floor .0) (now (pages .entry)) (now (log .entry)))) (now (pages .entry)) (now (log .entry)) [] .answer ⌝ }
+    ensures { λ _. ⌜ now (pages .exit) ≡ recoverBy (recoverVerdict (fullAt records) (lent magic (floor .0) (now (pages .entry)) (now (log .entry)))) (now (pages .entry)) (now (log .entry)) [] .pages ⌝ }
 {
     let t = tables();
     let mut starts = [0u32; 4097];

@@ -1,4 +1,5 @@
 // Recovery, and reading a row before it.
+ghost use Rattle.rules.specs.Lent.{lent};
 ghost use mathlib.Core.Path.{_≡_};
 ghost use Prim.Native.Nat.{_/_, _≤_};
 ghost use lib.ListN.{length};
@@ -40,9 +41,9 @@ pub struct Spot {
 
 // Recovery: pages mended, the table filled with one record for each Begin, and the answer.
 pub fn recover(magic: u64, floor: Lsn, pages: &mut [u8], log: &[u8], table: &mut [Record]) -> Answer
-    ensures { λ r. ⌜ r ≡ recoverOf magic (floor .0) (now (pages .entry)) (now (log .entry)) (now (table .entry)) .answer ⌝ }
-    ensures { λ _. ⌜ now (pages .exit) ≡ recoverOf magic (floor .0) (now (pages .entry)) (now (log .entry)) (now (table .entry)) .pages ⌝ }
-    ensures { λ _. ⌜ now (table .exit) ≡ recoverOf magic (floor .0) (now (pages .entry)) (now (log .entry)) (now (table .entry)) .table ⌝ }
+    ensures { λ r. ⌜ r ≡ recoverOf (lent magic (floor .0) (now (pages .entry)) (now (log .entry))) (now (table .entry)) .answer ⌝ }
+    ensures { λ _. ⌜ now (pages .exit) ≡ recoverOf (lent magic (floor .0) (now (pages .entry)) (now (log .entry))) (now (table .entry)) .pages ⌝ }
+    ensures { λ _. ⌜ now (table .exit) ≡ recoverOf (lent magic (floor .0) (now (pages .entry)) (now (log .entry))) (now (table .entry)) .table ⌝ }
 {
     let a = core::recover(magic, floor, pages, log, table.len() as u64);
     fill(log, a, table);
@@ -67,9 +68,9 @@ pub fn recover_flat(
     log: &[u8],
     table: &mut [u64],
 ) -> Answer
-    ensures { λ r. ⌜ r ≡ recoverFlat magic (floor .0) (now (pages .entry)) (now (log .entry)) (now (table .entry)) .answer ⌝ }
-    ensures { λ _. ⌜ now (pages .exit) ≡ recoverFlat magic (floor .0) (now (pages .entry)) (now (log .entry)) (now (table .entry)) .pages ⌝ }
-    ensures { λ _. ⌜ now (table .exit) ≡ recoverFlat magic (floor .0) (now (pages .entry)) (now (log .entry)) (now (table .entry)) .table ⌝ }
+    ensures { λ r. ⌜ r ≡ recoverFlat (lent magic (floor .0) (now (pages .entry)) (now (log .entry))) (now (table .entry)) .answer ⌝ }
+    ensures { λ _. ⌜ now (pages .exit) ≡ recoverFlat (lent magic (floor .0) (now (pages .entry)) (now (log .entry))) (now (table .entry)) .pages ⌝ }
+    ensures { λ _. ⌜ now (table .exit) ≡ recoverFlat (lent magic (floor .0) (now (pages .entry)) (now (log .entry))) (now (table .entry)) .table ⌝ }
 {
     let records = (table.len() / 4) as u64;
     let a = core::recover(magic, floor, pages, log, records);
@@ -88,7 +89,7 @@ pub fn read_row(
     page: PageNumber,
     slot: u16,
 ) -> RowHead
-    ensures { λ r. ⌜ r ≡ rowOf magic (floor .0) (now (pages .entry)) (now (log .entry)) (page .0) slot ⌝ }
+    ensures { λ r. ⌜ r ≡ rowOf (lent magic (floor .0) (now (pages .entry)) (now (log .entry))) (page .0) slot ⌝ }
 {
     let s = row::find(magic, floor, pages, log, page.0, slot as usize);
     row::head(log, pages, s)
@@ -103,7 +104,7 @@ pub fn row_payload<'a>(
     page: PageNumber,
     slot: u16,
 ) -> &'a [u8]
-    ensures { λ r. ⌜ now r ≡ rowPayload magic (floor .0) (now (pages .entry)) (now (log .entry)) (page .0) slot ⌝ }
+    ensures { λ r. ⌜ now r ≡ rowPayload (lent magic (floor .0) (now (pages .entry)) (now (log .entry))) (page .0) slot ⌝ }
 {
     let s = row::find(magic, floor, pages, log, page.0, slot as usize);
     let m = s.image;
@@ -119,7 +120,7 @@ pub fn locate_row(
     page: PageNumber,
     slot: u16,
 ) -> Located
-    ensures { λ r. ⌜ r ≡ locatedOf magic (floor .0) (now (pages .entry)) (now (log .entry)) (page .0) slot ⌝ }
+    ensures { λ r. ⌜ r ≡ locatedOf (lent magic (floor .0) (now (pages .entry)) (now (log .entry))) (page .0) slot ⌝ }
 {
     let s = row::find(magic, floor, pages, log, page.0, slot as usize);
     row::locate(log, pages, s)

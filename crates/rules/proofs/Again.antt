@@ -38,6 +38,7 @@ use Rattle.rules.proofs.Range.{in-range}
 use Rattle.rules.proofs.Verdicts.{Accepted, is-accepted, accepted-is}
 use Rattle.refusals.proofs.Then.{then-zero}
 use Rattle.rules.proofs.Area.{page-mended, mended-alike}
+use Rattle.rules.specs.Lent.{lent}
 
 -- an answer of 0 comes from no refusal
 pub answer-zero : (v : Verdict) (pages log : List ℕ) (table : List Record) → recoverBy v pages log table .answer .number ≡ 0 → v .number ≡ 0
@@ -49,24 +50,24 @@ answer-zero v pages log table h = go (eqb (v .number) 0) refl h
 
 -- the two ways of recovery
 module _ (magic floor : ℕ) (pages log : List ℕ) (table : List Record) where
-  pub recover-done : recoverVerdict (fullAt (length table)) magic floor pages log .number ≡ 0
-      → (recoverOf magic floor pages log table .answer ≡ done (entries log) (endOf log) (pagesIn pages))
-      × (recoverOf magic floor pages log table .pages ≡ mendedFrom (entries log) pages (pagesIn pages) 0)
+  pub recover-done : recoverVerdict (fullAt (length table)) (lent magic floor pages log) .number ≡ 0
+      → (recoverOf (lent magic floor pages log) table .answer ≡ done (entries log) (endOf log) (pagesIn pages))
+      × (recoverOf (lent magic floor pages log) table .pages ≡ mendedFrom (entries log) pages (pagesIn pages) 0)
   unfolding recoverOf
   recover-done h = rw (eq-eqb _ _ h) (refl, refl)
 
   -- a refusal leaves every buffer as it was
-  pub recover-refused : eqb (recoverVerdict (fullAt (length table)) magic floor pages log .number) 0 ≡ false
-      → recoverOf magic floor pages log table
-      ≡ record { answer = refused (recoverVerdict (fullAt (length table)) magic floor pages log); pages = pages; table = table }
+  pub recover-refused : eqb (recoverVerdict (fullAt (length table)) (lent magic floor pages log) .number) 0 ≡ false
+      → recoverOf (lent magic floor pages log) table
+      ≡ record { answer = refused (recoverVerdict (fullAt (length table)) (lent magic floor pages log)); pages = pages; table = table }
   unfolding recoverOf
   recover-refused h = rw h
 
-  pub recover-zero : recoverOf magic floor pages log table .answer .number ≡ 0 → recoverVerdict (fullAt (length table)) magic floor pages log .number ≡ 0
+  pub recover-zero : recoverOf (lent magic floor pages log) table .answer .number ≡ 0 → recoverVerdict (fullAt (length table)) (lent magic floor pages log) .number ≡ 0
   unfolding recoverOf
-  recover-zero h = answer-zero (recoverVerdict (fullAt (length table)) magic floor pages log) pages log table h
+  recover-zero h = answer-zero (recoverVerdict (fullAt (length table)) (lent magic floor pages log)) pages log table h
 
-  pub zero-accepted : recoverOf magic floor pages log table .answer .number ≡ 0 → Accepted (fullAt (length table)) magic floor pages log
+  pub zero-accepted : recoverOf (lent magic floor pages log) table .answer .number ≡ 0 → Accepted (fullAt (length table)) magic floor pages log
   zero-accepted h = is-accepted (fullAt (length table)) magic floor pages log (recover-zero h)
 
   -- each page is mended, and each of its slots decided
@@ -74,14 +75,14 @@ module _ (magic floor : ℕ) (pages log : List ℕ) (table : List Record) where
     abbrev E : List Entry
     E = entries log
 
-    pub page-after : pageAt i (recoverOf magic floor pages log table .pages) ≡ mend E i (pageAt i pages)
+    pub page-after : pageAt i (recoverOf (lent magic floor pages log) table .pages) ≡ mend E i (pageAt i pages)
     unfolding mend
     page-after =
         ap (pageAt i) (recover-done (accepted-is (fullAt (length table)) magic floor pages log a) .1)
         ∙ page-mended E pages (pagesIn pages) 0 i (λ k x y. length-mended (committed E) E k (pageAt k pages) (page-length pages k (omega arith)) (a .roomy k (omega arith))) l
         ∙ ap (λ (k : ℕ). mend E k (pageAt k pages)) (zero-add i)
 
-    pub slot-after : (k : ℕ) → slotAt (pageAt i (recoverOf magic floor pages log table .pages)) k ≡ decided (committed E) E i k (slotAt (pageAt i pages) k)
+    pub slot-after : (k : ℕ) → slotAt (pageAt i (recoverOf (lent magic floor pages log) table .pages)) k ≡ decided (committed E) E i k (slotAt (pageAt i pages) k)
     unfolding mend
     slot-after k = ap (λ (p : List ℕ). slotAt p k) page-after ∙ slot-mended (committed E) E i (pageAt i pages) (page-length pages i l) (a .roomy i l) k
 
@@ -99,7 +100,7 @@ page-accepts full magic floor pages log a i l =
     record {
       good = sound-good magic i (pageAt i pages) (page-length pages i l) (a .sane i l .sound);
       lsnKnown = a .sane i l .lsnKnown;
-      isData = λ t. a .lent i t .isData;
+      isData = λ t. a .onData i t .isData;
       hasRoom = a .roomy i l;
     }
 
@@ -180,9 +181,9 @@ module _ (full : ℕ → Bool) (magic floor₁ floor : ℕ) (P L : List ℕ) (bP
           sane = λ i l.
               let a = page-q i (omega (arith, count-same)) in
               record { sound = good-sound magic i (pageAt i Q) (a .good); lsnKnown = a .lsnKnown };
-          lent = λ i t.
-              let b = A₂ .lent i t in
-              record { lent = omega (arith, count-same, b .lent); isData = page-q i (b .lent) .isData t };
+          onData = λ i t.
+              let b = A₂ .onData i t in
+              record { within = omega (arith, count-same, b .within); isData = page-q i (b .within) .isData t };
           roomy = λ i l. page-q i (omega (arith, count-same)) .hasRoom;
         }
 
@@ -191,15 +192,15 @@ module _ (full : ℕ → Bool) (magic floor₁ floor : ℕ) (P L : List ℕ) (bP
 
 -- the theorem, of any pages and any log
 module _ (magic floor₁ floor : ℕ) (P L : List ℕ) (bP : Bytes P) (bL : Bytes L) (c₁ c₂ : ℕ) (le : c₁ ≤ c₂) (T₁ T₂ T₃ : List Record)
-    (t₁ : length T₁ ≡ length T₂) (t₃ : length T₃ ≡ length T₂) (ok : recoverOf magic floor P (take c₂ L) T₂ .answer .number ≡ 0)
+    (t₁ : length T₁ ≡ length T₂) (t₃ : length T₃ ≡ length T₂) (ok : recoverOf (lent magic floor P (take c₂ L)) T₂ .answer .number ≡ 0)
     (Q : List ℕ) (same : length Q ≡ length P)
-    (each : (i : ℕ) → i < pagesIn P → (pageAt i Q ≡ pageAt i P) ⊎ (pageAt i Q ≡ pageAt i (recoverOf magic floor₁ P (take c₁ L) T₁ .pages))) where
+    (each : (i : ℕ) → i < pagesIn P → (pageAt i Q ≡ pageAt i P) ⊎ (pageAt i Q ≡ pageAt i (recoverOf (lent magic floor₁ P (take c₁ L)) T₁ .pages))) where
   A : Accepted (fullAt (length T₂)) magic floor P (take c₂ L)
   A = zero-accepted magic floor P (take c₂ L) T₂ ok
 
   abbrev Ends : Type 0
-  Ends = (recoverOf magic floor Q (take c₂ L) T₃ .answer ≡ recoverOf magic floor P (take c₂ L) T₂ .answer)
-      × (recoverOf magic floor Q (take c₂ L) T₃ .pages ≡ recoverOf magic floor P (take c₂ L) T₂ .pages)
+  Ends = (recoverOf (lent magic floor Q (take c₂ L)) T₃ .answer ≡ recoverOf (lent magic floor P (take c₂ L)) T₂ .answer)
+      × (recoverOf (lent magic floor Q (take c₂ L)) T₃ .pages ≡ recoverOf (lent magic floor P (take c₂ L)) T₂ .pages)
 
   -- from an accepted first run; a refused one left every page as it was, so the longer cut itself serves as the shorter
   ends : (c f : ℕ) → c ≤ c₂ → Accepted (fullAt (length T₂)) magic f P (take c L)
@@ -207,7 +208,7 @@ module _ (magic floor₁ floor : ℕ) (P L : List ℕ) (bP : Bytes P) (bL : Byte
   ends c f l a h =
       let n : pagesIn Q ≡ pagesIn P = ap (λ (n : ℕ). n / pageBytes) same in
       let acc = again-accepted (fullAt (length T₂)) magic f floor P L bP bL c c₂ l a A Q same h in
-      let v : recoverVerdict (fullAt (length T₃)) magic floor Q (take c₂ L) .number ≡ 0 = rw t₃ (accepted-is (fullAt (length T₂)) magic floor Q (take c₂ L) acc) in
+      let v : recoverVerdict (fullAt (length T₃)) (lent magic floor Q (take c₂ L)) .number ≡ 0 = rw t₃ (accepted-is (fullAt (length T₂)) magic floor Q (take c₂ L) acc) in
       let d = recover-done magic floor Q (take c₂ L) T₃ v in
       let e = recover-done magic floor P (take c₂ L) T₂ (recover-zero magic floor P (take c₂ L) T₂ ok) in (
         d .0 ∙ ap (done (entries (take c₂ L)) (endOf (take c₂ L))) n ∙ sym (e .0),
@@ -215,13 +216,13 @@ module _ (magic floor₁ floor : ℕ) (P L : List ℕ) (bP : Bytes P) (bL : Byte
       )
 
   pub again : Ends
-  again = go (eqb (recoverVerdict (fullAt (length T₁)) magic floor₁ P (take c₁ L) .number) 0) refl
+  again = go (eqb (recoverVerdict (fullAt (length T₁)) (lent magic floor₁ P (take c₁ L)) .number) 0) refl
     where
-      go : (b : Bool) → eqb (recoverVerdict (fullAt (length T₁)) magic floor₁ P (take c₁ L) .number) 0 ≡ b → Ends
+      go : (b : Bool) → eqb (recoverVerdict (fullAt (length T₁)) (lent magic floor₁ P (take c₁ L)) .number) 0 ≡ b → Ends
       go true e =
-          let v : recoverVerdict (fullAt (length T₁)) magic floor₁ P (take c₁ L) .number ≡ 0 = eqb-true _ _ e in
+          let v : recoverVerdict (fullAt (length T₁)) (lent magic floor₁ P (take c₁ L)) .number ≡ 0 = eqb-true _ _ e in
           let a : Accepted (fullAt (length T₁)) magic floor₁ P (take c₁ L) = is-accepted (fullAt (length T₁)) magic floor₁ P (take c₁ L) v in
           ends c₁ floor₁ le (rw t₁ at a) (λ i l. ⊎-elim {C = (pageAt i Q ≡ pageAt i P) ⊎ (pageAt i Q ≡ mend (entries (take c₁ L)) i (pageAt i P))} (λ h. inl h) (λ h. inr (h ∙ page-after magic floor₁ P (take c₁ L) T₁ a i l)) (each i l))
       go false e =
-          let p : recoverOf magic floor₁ P (take c₁ L) T₁ .pages ≡ P = ap (λ (r : Recovered). r .pages) (recover-refused magic floor₁ P (take c₁ L) T₁ e) in
+          let p : recoverOf (lent magic floor₁ P (take c₁ L)) T₁ .pages ≡ P = ap (λ (r : Recovered). r .pages) (recover-refused magic floor₁ P (take c₁ L) T₁ e) in
           ends c₂ floor (omega arith) A (λ i l. inl (⊎-elim {C = pageAt i Q ≡ pageAt i P} (λ h. h) (λ h. h ∙ ap (pageAt i) p) (each i l)))

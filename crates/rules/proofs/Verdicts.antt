@@ -29,6 +29,7 @@ use Rattle.rules.specs.Mend.{committed, topOf, slotsFor, Accepts}
 use Rattle.rules.specs.Recover.{pagesFrom, isStray, strayFrom, isTouched, isTight, tightFrom, recoverVerdict}
 use Rattle.rules.proofs.Tests.{both-true, either-false, false-true}
 use Rattle.rules.proofs.OrderLaws.{Every}
+use Rattle.rules.specs.Lent.{lent}
 
 -- a test that refuses did not hold
 unrefused : (b : Bool) (v w : Verdict) → (v .number ≡ 0 → ⊥) → pick b v w .number ≡ 0 → (b ≡ false) × (w .number ≡ 0)
@@ -77,28 +78,28 @@ none-stray s [] at h = refl
 none-stray s (e ∷ es) at h = rw (h .0) (none-stray s es (at + sizeOf e) (h .1))
 
 -- a touched page is lent, and a Data page
-pub record Lent (s : List ℕ) (i : ℕ) : Type 0 where
-  pub lent : i < pagesIn s
+pub record OnData (s : List ℕ) (i : ℕ) : Type 0 where
+  pub within : i < pagesIn s
   pub isData : typeOf (pageAt i s) ≡ dataType
 
-lent-one : (s : List ℕ) (i : ℕ) (e : Entry) → isStray s e ≡ false → 0 < topOn i e → Lent s i
+lent-one : (s : List ℕ) (i : ℕ) (e : Entry) → isStray s e ≡ false → 0 < topOn i e → OnData s i
 unfolding isStray topOn isOn
 lent-one s i e = go (isChange e) (eqb (pageOf e) i) refl
   where
-    at : (eqb (pageOf e) i ≡ true) → either (leb (pagesIn s) (pageOf e)) (not (eqb (typeOf (pageAt (pageOf e) s)) dataType)) ≡ false → Lent s i
+    at : (eqb (pageOf e) i ≡ true) → either (leb (pagesIn s) (pageOf e)) (not (eqb (typeOf (pageAt (pageOf e) s)) dataType)) ≡ false → OnData s i
     at q h =
         let z : pageOf e ≡ i = eqb-true _ _ q in
         let r = either-false (leb (pagesIn s) (pageOf e)) _ h in
-        rw (← z) (record { lent = leb-false _ _ (r .0); isData = eqb-true _ _ (not-false _ (r .1)) })
+        rw (← z) (record { within = leb-false _ _ (r .0); isData = eqb-true _ _ (not-false _ (r .1)) })
 
     go : (a b : Bool) → eqb (pageOf e) i ≡ b
         → both a (either (leb (pagesIn s) (pageOf e)) (not (eqb (typeOf (pageAt (pageOf e) s)) dataType))) ≡ false
-        → 0 < pick (both a b) (suc (slotOf e)) 0 → Lent s i
+        → 0 < pick (both a b) (suc (slotOf e)) 0 → OnData s i
     go true true q h t = at q h
     go true false q h t = absurd (omega arith)
     go false b q h t = absurd (omega arith)
 
-pub lent-all : (s : List ℕ) (i : ℕ) (es : List Entry) → Every (λ e. isStray s e ≡ false) es → 0 < topOf i es → Lent s i
+pub lent-all : (s : List ℕ) (i : ℕ) (es : List Entry) → Every (λ e. isStray s e ≡ false) es → 0 < topOf i es → OnData s i
 unfolding topOf
 lent-all s i [] h t = absurd (omega arith)
 lent-all s i (e ∷ es) h t =
@@ -108,7 +109,7 @@ lent-all s i (e ∷ es) h t =
     ]
 
 -- the other way
-one-lent : (s : List ℕ) (e : Entry) → ((i : ℕ) → 0 < topOn i e → Lent s i) → isStray s e ≡ false
+one-lent : (s : List ℕ) (e : Entry) → ((i : ℕ) → 0 < topOn i e → OnData s i) → isStray s e ≡ false
 unfolding isStray topOn isOn
 one-lent s e h = go (isChange e) refl
   where
@@ -116,10 +117,10 @@ one-lent s e h = go (isChange e) refl
     go true q =
         let t : 0 < pick (both (isChange e) (eqb (pageOf e) (pageOf e))) (suc (slotOf e)) 0 = rw (q, eq-eqb (pageOf e) (pageOf e) refl) (omega arith) in
         let l = h (pageOf e) t in
-        rw (lt-leb _ _ (l .lent), eq-eqb _ _ (l .isData))
+        rw (lt-leb _ _ (l .within), eq-eqb _ _ (l .isData))
     go false q = refl
 
-pub all-lent : (s : List ℕ) (es : List Entry) → ((i : ℕ) → 0 < topOf i es → Lent s i) → Every (λ e. isStray s e ≡ false) es
+pub all-lent : (s : List ℕ) (es : List Entry) → ((i : ℕ) → 0 < topOf i es → OnData s i) → Every (λ e. isStray s e ≡ false) es
 unfolding topOf
 all-lent s [] h = tt
 all-lent s (e ∷ es) h = (one-lent s e (λ i t. h i (omega arith)), all-lent s es (λ i t. h i (omega arith)))
@@ -164,11 +165,11 @@ pub record Accepted (full : ℕ → Bool) (magic floor : ℕ) (pages log : List 
   pub size : sizeWrong pages ≡ false
   pub logOk : logVerdict full log .number ≡ 0
   pub sane : (i : ℕ) → i < pagesIn pages → Sane magic floor (lastLsn (entries log)) pages i
-  pub lent : (i : ℕ) → 0 < topOf i (entries log) → Lent pages i
+  pub onData : (i : ℕ) → 0 < topOf i (entries log) → OnData pages i
   pub roomy : (i : ℕ) → i < pagesIn pages → Roomy (entries log) pages i
 
 module _ (full : ℕ → Bool) (magic floor : ℕ) (pages log : List ℕ) where
-  pub is-accepted : recoverVerdict full magic floor pages log .number ≡ 0 → Accepted full magic floor pages log
+  pub is-accepted : recoverVerdict full (lent magic floor pages log) .number ≡ 0 → Accepted full magic floor pages log
   unfolding recoverVerdict
   is-accepted h =
       let a = then-zero (pick (sizeWrong pages) (verdict 1 0) accepted) _ h in
@@ -180,11 +181,11 @@ module _ (full : ℕ → Bool) (magic floor : ℕ) (pages log : List ℕ) where
         size = z .0;
         logOk = b .0;
         sane = λ i l. pages-sane magic floor (lastLsn (entries log)) pages (pagesIn pages) 0 (c .0) i (omega arith) (omega arith);
-        lent = λ i t. lent-all pages i (entries log) (stray-none pages (entries log) first (d .0)) t;
+        onData = λ i t. lent-all pages i (entries log) (stray-none pages (entries log) first (d .0)) t;
         roomy = λ i l. tight-none (entries log) pages (pagesIn pages) 0 (d .1) i (omega arith) (omega arith);
       }
 
-  pub accepted-is : Accepted full magic floor pages log → recoverVerdict full magic floor pages log .number ≡ 0
+  pub accepted-is : Accepted full magic floor pages log → recoverVerdict full (lent magic floor pages log) .number ≡ 0
   unfolding recoverVerdict
   accepted-is a =
       zero-then (pick (sizeWrong pages) (verdict 1 0) accepted) _ (rw (a .size))
@@ -192,5 +193,5 @@ module _ (full : ℕ → Bool) (magic floor : ℕ) (pages log : List ℕ) where
       (zero-then (pagesFrom magic floor (lastLsn (entries log)) pages (pagesIn pages) 0) _
       (sane-pages magic floor (lastLsn (entries log)) pages (pagesIn pages) 0 (λ j l k. a .sane j (omega arith)))
       (zero-then (strayFrom pages (entries log) first) (tightFrom (entries log) pages (pagesIn pages) 0)
-      (none-stray pages (entries log) first (all-lent pages (entries log) (a .lent)))
+      (none-stray pages (entries log) first (all-lent pages (entries log) (a .onData)))
       (none-tight (entries log) pages (pagesIn pages) 0 (λ j l k. a .roomy j (omega arith))))))

@@ -1,5 +1,6 @@
 pub mod Shape
 pub mod Order
 pub mod Mend
+pub mod Lent
 pub mod Recover
 pub mod Row

@@ -1,4 +1,4 @@
--- Recovery: from magic, floor LSN, page bytes, log bytes and table to the answer, every page byte and every record afterwards (paper 01, Numbers given back).
+-- Recovery: from what is lent and the table to the answer, every page byte and every record afterwards (paper 01, Numbers given back).
 use Prim.Native.Nat.{ℕ, zero, suc, _+_, _*_, max}
 use mathlib.Core.List.{List, [], _∷_, _++_}
 use mathlib.Core.Bool.{Bool, not}
@@ -17,6 +17,7 @@ use Rattle.refusals.specs.declared.Verdict.{Verdict}
 use Rattle.rules.specs.Shape.{both, either, isChange, pageOf}
 use Rattle.rules.specs.Order.{one, count, any, is, isBegin, lastLsn, fullAt, logVerdict}
 use Rattle.rules.specs.Mend.{committed, topOf, slotsFor, mend}
+use Rattle.rules.specs.Lent.{Lent}
 use Rattle.rules.specs.declared.Answer.{Answer}
 use Rattle.rules.specs.declared.Record.{Record}
 
@@ -49,13 +50,13 @@ tightFrom es s zero i = accepted
 tightFrom es s (suc n) i = pick (isTight es s i) (verdict pageOverfull i) (tightFrom es s n (suc i))
 
 -- the verdict of recovery: 1, 2, 3; then entry by entry, 4 to 10 in turn; then page by page, 11 before 12; then 13; then 14
-unfoldable pub recoverVerdict : (ℕ → Bool) → ℕ → ℕ → List ℕ → List ℕ → Verdict
-recoverVerdict full magic floor pages log =
-    pick (sizeWrong pages) (verdict pageArea 0) accepted
-    then logVerdict full log
-    then pagesFrom magic floor (lastLsn (entries log)) pages (pagesIn pages) 0
-    then strayFrom pages (entries log) first
-    then tightFrom (entries log) pages (pagesIn pages) 0
+unfoldable pub recoverVerdict : (ℕ → Bool) → Lent → Verdict
+recoverVerdict full x =
+    pick (sizeWrong (x .pages)) (verdict pageArea 0) accepted
+    then logVerdict full (x .log)
+    then pagesFrom (x .magic) (x .floor) (lastLsn (entries (x .log))) (x .pages) (pagesIn (x .pages)) 0
+    then strayFrom (x .pages) (entries (x .log)) first
+    then tightFrom (entries (x .log)) (x .pages) (pagesIn (x .pages)) 0
 
 -- ---- transactions and counts, from the entries themselves
 
@@ -158,5 +159,5 @@ recoverBy v pages log table =
     })
     (record { answer = refused v; pages = pages; table = table })
 
-unfoldable pub recoverOf : ℕ → ℕ → List ℕ → List ℕ → List Record → Recovered
-recoverOf magic floor pages log table = recoverBy (recoverVerdict (fullAt (length table)) magic floor pages log) pages log table
+unfoldable pub recoverOf : Lent → List Record → Recovered
+recoverOf x table = recoverBy (recoverVerdict (fullAt (length table)) x) (x .pages) (x .log) table

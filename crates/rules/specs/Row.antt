@@ -15,14 +15,14 @@ use Rattle.refusals.specs.declared.Verdict.{Verdict}
 use Rattle.rules.specs.Shape.{ChangeOf, both, isOn, slotOf, keyBytes}
 use Rattle.rules.specs.Order.{neverFull}
 use Rattle.rules.specs.Mend.{committed, winner, decided}
+use Rattle.rules.specs.Lent.{Lent}
 use Rattle.rules.specs.Recover.{recoverVerdict}
 use Rattle.rules.specs.declared.RowHead.{RowHead}
 use Rattle.rules.specs.declared.Located.{Located}
 
 -- the refusals of recovery without a table, then 15: on no lent page
-unfoldable pub rowVerdict : ℕ → ℕ → List ℕ → List ℕ → ℕ → Verdict
-rowVerdict magic floor pages log page =
-    recoverVerdict neverFull magic floor pages log then pick (leb (pagesIn pages) page) (verdict noSuchPage 0) accepted
+unfoldable pub rowVerdict : Lent → ℕ → Verdict
+rowVerdict x page = recoverVerdict neverFull x then pick (leb (pagesIn (x .pages)) page) (verdict noSuchPage 0) accepted
 
 -- the tuple that recovery would leave in slot k of page i: none where the page is not of type 1
 unfoldable pub tupleOf : List ℕ → List ℕ → ℕ → ℕ → List ℕ
@@ -48,17 +48,16 @@ headOf (b ∷ t) =
 abbrev pub refusedRow : Verdict → RowHead
 refusedRow v = record { number = v .number; place = v .place; filled = false; xmin = record { 0 = 0 }; xmax = record { 0 = 0 }; deleted = 0; pad = 0 }
 
-unfoldable pub rowOf : ℕ → ℕ → List ℕ → List ℕ → ℕ → ℕ → RowHead
-rowOf magic floor pages log i k =
-    pick (eqb (rowVerdict magic floor pages log i .number) 0) (headOf (tupleOf pages log i k)) (refusedRow (rowVerdict magic floor pages log i))
+unfoldable pub rowOf : Lent → ℕ → ℕ → RowHead
+rowOf x i k = pick (eqb (rowVerdict x i .number) 0) (headOf (tupleOf (x .pages) (x .log) i k)) (refusedRow (rowVerdict x i))
 
 -- the row's tuple; none where it is refused
-unfoldable pub rowTuple : ℕ → ℕ → List ℕ → List ℕ → ℕ → ℕ → List ℕ
-rowTuple magic floor pages log i k = pick (eqb (rowVerdict magic floor pages log i .number) 0) (tupleOf pages log i k) []
+unfoldable pub rowTuple : Lent → ℕ → ℕ → List ℕ
+rowTuple x i k = pick (eqb (rowVerdict x i .number) 0) (tupleOf (x .pages) (x .log) i k) []
 
 -- the payload of the row; empty where it is refused or unfilled
-unfoldable pub rowPayload : ℕ → ℕ → List ℕ → List ℕ → ℕ → ℕ → List ℕ
-rowPayload magic floor pages log i k = payloadOf (rowTuple magic floor pages log i k)
+unfoldable pub rowPayload : Lent → ℕ → ℕ → List ℕ
+rowPayload x i k = payloadOf (rowTuple x i k)
 
 -- ---- where the payload stands
 
@@ -105,5 +104,5 @@ abbrev pub locatedAt : RowHead → Standing → List ℕ → Located
 locatedAt head st [] = record { head = head; source = 0; offset = 0; length = 0 }
 locatedAt head st (b ∷ t) = record { head = head; source = st .source; offset = st .at + rowHead; length = length (payloadOf (b ∷ t)) }
 
-unfoldable pub locatedOf : ℕ → ℕ → List ℕ → List ℕ → ℕ → ℕ → Located
-locatedOf magic floor pages log i k = locatedAt (rowOf magic floor pages log i k) (standingOf pages log i k) (rowTuple magic floor pages log i k)
+unfoldable pub locatedOf : Lent → ℕ → ℕ → Located
+locatedOf x i k = locatedAt (rowOf x i k) (standingOf (x .pages) (x .log) i k) (rowTuple x i k)

@@ -65,6 +65,7 @@ use Rattle.recovery.proofs.recover.Key.{name as #recover}
 use Rattle.recovery.proofs.recover as f
 use Rattle.recovery.proofs.recover.Statement as stated
 use Rattle.recovery.proofs.recover.Code as code
+use Rattle.rules.specs.Lent.{lent}
 
 abbrev stayed : Stays (f.ended .signature .params) (f.ended .kept)
 stayed = (stay-none (λ _. u64) yes, (stay-none (λ _. L.the-row) yes, (gave-slice (0 ∷ []) tt (plain (λ _. u8)), (stay-none-slice (1 ∷ []) tt (plain (λ _. u8)) yes, (gave-slice (2 ∷ []) tt (plain (λ _. T.the-row)), tt)))))
@@ -122,10 +123,10 @@ module _ {M : Type 1} (𝓤 : URA M) (H : Heap 𝓤) (A : Atoms 𝓤) (W : Given
 
   -- what each call says
   abbrev Answered : Answer → Type 0
-  Answered r = r ≡ recoverBy (recoverVerdict (fullAt (length (now y))) magic (floor .0) (now x) (now log)) (now x) (now log) [] .answer
+  Answered r = r ≡ recoverBy (recoverVerdict (fullAt (length (now y))) (lent magic (floor .0) (now x) (now log))) (now x) (now log) [] .answer
 
   abbrev Mended : List ℕ → Type 0
-  Mended zs = zs ≡ recoverBy (recoverVerdict (fullAt (length (now y))) magic (floor .0) (now x) (now log)) (now x) (now log) [] .pages
+  Mended zs = zs ≡ recoverBy (recoverVerdict (fullAt (length (now y))) (lent magic (floor .0) (now x) (now log))) (now x) (now log) [] .pages
 
   abbrev Filled : Answer → List Record → Type 0
   Filled r ts = ts ≡ choose (eqb (r .number) 0) (tableAfter (entries (now log)) (now y)) (now y)

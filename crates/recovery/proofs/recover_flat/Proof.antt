@@ -12,13 +12,14 @@ use Rattle.rules.proofs.Again.{answer-zero}
 use Rattle.recovery.proofs.Outcome.{Sure, sure, answer-refused, answer-tail, begins-of, flat-answer, flat-pages, flat-done, flat-refused}
 use Rattle.recovery.proofs.recover_flat.Statement.{statement}
 use Rattle.recovery.proofs.recover_flat.Tie as tie
+use Rattle.rules.specs.Lent.{lent}
 
 -- the verdict where the answer's number is 0
 zero : (c : tie.Then1) → let a = c .before .before .before .before .before .before .before .before .before .args in
-    recoverVerdict (fullAt (length (a .table .now) / 4)) (a .magic) (a .floor .0) (a .pages .now) (a .log .now) .number ≡ 0
+    recoverVerdict (fullAt (length (a .table .now) / 4)) (lent (a .magic) (a .floor .0) (a .pages .now) (a .log .now)) .number ≡ 0
 zero c =
     let a = c .before .before .before .before .before .before .before .before .before .args in
-    answer-zero (recoverVerdict (fullAt (length (a .table .now) / 4)) (a .magic) (a .floor .0) (a .pages .now) (a .log .now)) (a .pages .now) (a .log .now) [] (sym (ap (λ (a : Answer). a .number) (c .before .before .before .before .recover .ensures .0)) ∙ c .if1 .taken)
+    answer-zero (recoverVerdict (fullAt (length (a .table .now) / 4)) (lent (a .magic) (a .floor .0) (a .pages .now) (a .log .now))) (a .pages .now) (a .log .now) [] (sym (ap (λ (a : Answer). a .number) (c .before .before .before .before .recover .ensures .0)) ∙ c .if1 .taken)
 
 fill-table-requires : tie.Need-fill-table-requires
 fill-table-requires c κs =
@@ -27,7 +28,7 @@ fill-table-requires c κs =
     let a = r .before .before .before .before .before .args in
     let z = zero t in
     let s = sure _ _ _ _ _ z in
-    (s .ordered, (sym (ap (λ (a : Answer). a .tail) (r .recover .ensures .0) ∙ answer-tail (recoverVerdict (fullAt (length (a .table .now) / 4)) (a .magic) (a .floor .0) (a .pages .now) (a .log .now)) (a .pages .now) (a .log .now) [] z), s .small, begins-of _ _ _ _ _ z))
+    (s .ordered, (sym (ap (λ (a : Answer). a .tail) (r .recover .ensures .0) ∙ answer-tail (recoverVerdict (fullAt (length (a .table .now) / 4)) (lent (a .magic) (a .floor .0) (a .pages .now) (a .log .now))) (a .pages .now) (a .log .now) [] z), s .small, begins-of _ _ _ _ _ z))
 
 returns : tie.Need-returns
 returns c =
@@ -43,7 +44,7 @@ returns-2 c =
       r .recover .ensures .0 ∙ flat-answer _ _ _ _ _,
       (
         r .recover .ensures .1 ∙ flat-pages _ _ _ _ _,
-        flat-refused _ _ _ _ _ (answer-refused (recoverVerdict (fullAt (length (a .table .now) / 4)) (a .magic) (a .floor .0) (a .pages .now) (a .log .now)) (a .pages .now) (a .log .now) [] (λ z. c .if1 .left (ap (λ (a : Answer). a .number) (r .recover .ensures .0) ∙ z))),
+        flat-refused _ _ _ _ _ (answer-refused (recoverVerdict (fullAt (length (a .table .now) / 4)) (lent (a .magic) (a .floor .0) (a .pages .now) (a .log .now))) (a .pages .now) (a .log .now) [] (λ z. c .if1 .left (ap (λ (a : Answer). a .number) (r .recover .ensures .0) ∙ z))),
       ),
     )
 
