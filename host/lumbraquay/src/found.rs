@@ -60,11 +60,10 @@ fn there(pages: &Pages) -> String {
 
 fn header(log: &Log) -> String {
     let start = &log.bytes[..log.bytes.len().min(6)];
-    format!(
-        "{} bytes, which start with '{}'",
-        log.bytes.len(),
-        show::hex(start)
-    )
+    match log.bytes.len() {
+        0 => "0 bytes".to_string(),
+        length => format!("{length} bytes, which start with '{}'", show::hex(start)),
+    }
 }
 
 fn number(page: &[u8], at: usize) -> u64 {

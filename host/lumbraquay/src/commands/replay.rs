@@ -28,6 +28,7 @@ pub const COMMAND: Command = Command {
             "DIR",
             "write the case to SEED.pages and SEED.log in this directory",
         ),
+        Choice::flag("--force", "replace these files if they exist"),
         JSON,
     ],
     more: "Exit status 1 means that the two differ.",
@@ -37,14 +38,18 @@ pub const COMMAND: Command = Command {
 fn run(parsed: &Parsed, output: &mut Output) -> Result<(), Failure> {
     let seed = parsed.number(0, u64::MAX)?;
     if let Some(count) = parsed.chosen_number("--count")? {
-        if parsed.flag("--all") || parsed.chosen_path("--dir").is_some() {
-            return Err(parsed.wrong("--count goes with neither --all nor --dir".to_string()));
+        if ["--all", "--dir", "--force"]
+            .iter()
+            .any(|name| parsed.flag(name))
+        {
+            let what = "--count goes with none of --all, --dir and --force";
+            return Err(parsed.wrong(what.to_string()));
         }
         return many(parsed, output, seed, count);
     }
     let case = compare::case(seed);
     if let Some(directory) = parsed.chosen_path("--dir") {
-        write(&case, directory)?;
+        write(&case, directory, parsed.flag("--force"))?;
     }
     let mut seen = Seen::telling(true);
     check(&case, &mut seen);
@@ -135,10 +140,10 @@ fn describe(case: &Case) -> String {
     )
 }
 
-fn write(case: &Case, directory: &Path) -> Result<(), Failure> {
+fn write(case: &Case, directory: &Path, replace: bool) -> Result<(), Failure> {
     for (ending, bytes) in [("pages", &case.pages), ("log", &case.log)] {
         let path = directory.join(format!("{}.{ending}", case.seed));
-        files::write_new(&path, bytes, None, false)?;
+        files::write_new(&path, bytes, None, replace)?;
     }
     Ok(())
 }

@@ -62,13 +62,16 @@ pub fn pages(mended: &Mended) -> String {
         };
         svg += &page_cell(index, new, mark, cell, (index % columns, index / columns));
     }
-    svg + "</svg>\n" + LEGEND_OF_PAGES
+    let marked = match (mended.answer.number, fault) {
+        (0, _) => "<span class=\"mark touched\"></span>rewritten ",
+        (_, Some(_)) => "<span class=\"mark unended\"></span>refused ",
+        (_, None) => "",
+    };
+    svg + &format!(
+        "</svg>\n<p class=\"legend\"><span class=\"mark data\"></span>data, filled from below {marked}\
+         <span class=\"mark free\"></span>free <span class=\"mark other\"></span>other types</p>\n"
+    )
 }
-
-const LEGEND_OF_PAGES: &str =
-    "<p class=\"legend\"><span class=\"mark data\"></span>data, filled from below \
-    <span class=\"mark touched\"></span>rewritten <span class=\"mark free\"></span>free \
-    <span class=\"mark other\"></span>other types</p>\n";
 
 /// What is marked on a page.
 #[derive(Clone, Copy)]

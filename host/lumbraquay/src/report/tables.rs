@@ -73,7 +73,10 @@ pub fn transactions(mended: &Mended) -> String {
         "<div class=\"wide\"><table>\n<tr><th>Number<th>First LSN<th>Changes<th>Outcome</tr>\n",
     );
     for record in mended.records.iter().take(MOST_ROWS) {
-        let outcome = show::outcome(record.outcome);
+        let outcome = match record.outcome {
+            library::UNENDED => "never ended",
+            outcome => show::outcome(outcome),
+        };
         html += &format!(
             "<tr><td class=\"n\">{}</td><td class=\"n\">{}</td><td class=\"n\">{}</td><td><span class=\"mark {}\"></span>{outcome}</td></tr>\n",
             record.number,

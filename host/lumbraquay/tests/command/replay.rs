@@ -79,7 +79,12 @@ fn cases_are_written_to_files() {
     assert!(sandbox.read(&format!("{seed}.log")) == case.log);
     sandbox
         .say(&format!("replay {seed} --dir ."))
-        .fails(&["it exists already"]);
+        .fails(&["it exists already; --force replaces it"]);
+    sandbox.write(&format!("{seed}.log"), b"another");
+    sandbox
+        .say(&format!("replay {seed} --dir . --force"))
+        .done();
+    assert!(sandbox.read(&format!("{seed}.log")) == case.log);
     sandbox
         .say(&format!("replay {seed} --dir missing"))
         .fails(&["cannot write missing/12.pages"]);

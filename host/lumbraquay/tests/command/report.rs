@@ -50,6 +50,8 @@ fn tells_all_of_the_outage() {
         "<title>page 1, data, 264 of 16320 bytes taken, 4 slots, rewritten</title>",
         "<title>page 3, free</title>",
         "<title>transaction 8, rolled back, 1 change</title>",
+        "<span class=\"mark touched\"></span>rewritten",
+        "<span class=\"mark unended\"></span>never ended</td>",
         "<title>checkpoint at offset 986</title>",
     ] {
         assert!(html.contains(text), "no '{text}' in {html}");
@@ -101,9 +103,11 @@ fn shows_a_refusal() {
         "refused: 11 PAGE_NOT_GOOD at page 2",
         "<dt>what to do</dt><dd>put the page back",
         "<g class=\"data faulty\"><title>page 2, ",
+        "<span class=\"mark unended\"></span>refused",
     ] {
         assert!(html.contains(text), "no '{text}' in {html}");
     }
+    assert!(!html.contains("rewritten"));
 }
 
 /// Whatever rows and file names hold is shown as text.

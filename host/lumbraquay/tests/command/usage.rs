@@ -103,7 +103,7 @@ fn wrong_words_are_told() {
         ("replay", "SEED is missing"),
         (
             "replay 1 --count 2 --all",
-            "--count goes with neither --all nor --dir",
+            "--count goes with none of --all, --dir and --force",
         ),
     ];
     for (words, text) in wrong {
