@@ -4,6 +4,9 @@
 mod c;
 pub mod refusal;
 
+/// The version of the C interface that these functions are for.
+pub const VERSION: u32 = 1;
+
 /// The bytes of a page.
 pub const PAGE_BYTES: usize = 16_384;
 

@@ -121,6 +121,10 @@ impl Told {
 }
 
 fn run(words: &[OsString], output: &mut Output, told: &mut Told) -> Result<(), Failure> {
+    if library::version() != library::VERSION {
+        let why = "this command was built over a library of another version";
+        return Err(Failure::File(why.to_string()));
+    }
     let Some((first, rest)) = words.split_first() else {
         return Err(Failure::Usage(format!(
             "no command is given\n\n{}",

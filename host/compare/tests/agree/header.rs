@@ -44,7 +44,7 @@ fn indices(answer: &str, names: &[&str]) -> Vec<(String, u64)> {
 #[test]
 fn names_and_numbers_are_the_same() {
     let mut expected: BTreeMap<String, u64> = [
-        ("VERSION", u64::from(library::version())),
+        ("VERSION", u64::from(library::VERSION)),
         ("PAGE_BYTES", library::PAGE_BYTES as u64),
         ("PAGE_LIMIT", library::PAGE_LIMIT as u64),
         ("LOG_LIMIT_BYTES", library::LOG_LIMIT_BYTES as u64),
@@ -82,6 +82,7 @@ fn names_and_numbers_are_the_same() {
         expected.extend(indices(answer, names));
     }
     assert_eq!(constants(), expected);
+    assert_eq!(library::version(), library::VERSION);
     assert!((1..)
         .zip(REFUSALS)
         .all(|(number, refusal)| refusal.number == number));

@@ -15,15 +15,16 @@ fn tool(sandbox: &Sandbox, name: &str, version: &str) {
 /// A directory with the two scripts, and one for tools that has the shell's own.
 fn with_scripts() -> Sandbox {
     let sandbox = Sandbox::new();
-    for directory in ["bin", "home", "home/.ci"] {
+    for directory in ["bin", "home", "home/.ci", "home/crates"] {
         fs::create_dir(sandbox.path.join(directory)).unwrap();
     }
+    sandbox.write("home/crates.txt", b"");
     for script in ["lumbraquay", ".ci/tools"] {
         let to = sandbox.path.join("home").join(script);
         fs::copy(repository().join(script), to).unwrap();
     }
     for name in [
-        "sh", "sed", "sort", "head", "dirname", "readlink", "echo", "cat",
+        "sh", "sed", "sort", "head", "dirname", "readlink", "echo", "cat", "find",
     ] {
         let found = ["/usr/bin", "/bin"].map(|directory| format!("{directory}/{name}"));
         let found = found.iter().find(|path| fs::metadata(path).is_ok());
@@ -78,4 +79,35 @@ fn the_wrapper_says_what_is_missing_through_a_link_too() {
     tool(&sandbox, "rt", "rt");
     let done = run(&sandbox, "./linked --version").ends(2);
     assert!(done.err.contains("cargo of version 1.85"), "{done:#?}");
+}
+
+/// After a change of a crate, as after a pull.
+#[test]
+fn the_wrapper_proves_again_what_has_changed() {
+    let sandbox = with_scripts();
+    for (name, version) in [("rt", "rt"), ("cc", "cc")] {
+        tool(&sandbox, name, version);
+    }
+    for name in ["cargo", "rustc"] {
+        tool(&sandbox, name, &format!("{name} 1.85.0"));
+    }
+    fs::create_dir_all(sandbox.path.join("home/target/staticlib")).unwrap();
+    fs::create_dir_all(sandbox.path.join("home/host/target/release")).unwrap();
+    let command = sandbox.path.join("home/host/target/release/lumbraquay");
+    symlink(sandbox.path.join("bin/cc"), command).unwrap();
+    let proves = || {
+        let done = run(&sandbox, "home/lumbraquay --version").ends(0);
+        done.err.contains("proving the library first")
+    };
+    assert!(proves());
+    let set = |name: &str, day: &str| {
+        sandbox.shell(&format!("touch -d {day} home/{name}")).done();
+    };
+    for name in ["crates", "crates.txt"] {
+        set(name, "2020-01-01");
+    }
+    set("target/staticlib/libcapi.a", "2020-01-02");
+    assert!(!proves());
+    set("crates/lib.rt", "2020-01-03");
+    assert!(proves());
 }
