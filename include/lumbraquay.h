@@ -37,8 +37,10 @@ uint32_t lq_version(void);
 #define LQ_LOG_LIMIT_BYTES 16777216 /* a longer log is refused by 2 */
 
 /* The refusals: number, name and meaning of each. The first that holds in this order is given: 1, 2, 3; then entry by
- * entry 4 to 10 in turn; then page by page 11 before 12; then 13, the earliest entry; then 14, the lowest page; then 15
- * or 16. The place of 4 to 10 and 13 is the entry's offset in the log, of 11, 12 and 14 the page's index, else 0. */
+ * entry 4 to 10 in turn; then page by page 11, 17, 18, 19 and 12 in turn; then 13, the earliest entry; then 14, the
+ * lowest page; then 15 or 16. The place of 4 to 10 and 13 is the entry's offset in the log; of 11, 12, 14, 17 and 18
+ * the page's index; of 19 the offset in the pages of what breaks the rule, 16,384 x index + 10 for an item count over
+ * 4,080, + 32 for the free start, + 34 for the free end, + 64 + 4 x k for slot k; else 0. */
 #define LQ_EACH_REFUSAL(X) \
     X(0, LQ_DONE, "done") \
     X(1, LQ_PAGE_AREA, "the page bytes are no multiple of 16,384, or there are over 4,096 pages") \
@@ -52,12 +54,15 @@ uint32_t lq_version(void);
       "of a transaction that is not open") \
     X(9, LQ_CLASH, "a change to a slot that another transaction, still open, has changed") \
     X(10, LQ_NO_RECORD, "a Begin for which the lent table has no record left") \
-    X(11, LQ_PAGE_NOT_GOOD, "a page is not good: its magic, type, id, checksum or a slot is wrong") \
+    X(11, LQ_PAGE_MAGIC_OR_TYPE, "a page has another magic, or a type other than 0 to 6") \
     X(12, LQ_PAGE_LSN, "a page's LSN is above the floor and above the last LSN of the log") \
     X(13, LQ_NO_DATA_PAGE, "a change to a page that is beyond the lent ones or not of type 1") \
     X(14, LQ_PAGE_OVERFULL, "the rows that belong on a page do not fit it") \
     X(15, LQ_NO_SUCH_PAGE, "the row is asked for on a page that is not there") \
-    X(16, LQ_MAP_SHORT, "the lent free map is too short")
+    X(16, LQ_MAP_SHORT, "the lent free map is too short") \
+    X(17, LQ_PAGE_ID, "a page has another id than its index") \
+    X(18, LQ_PAGE_CHECKSUM, "a page's checksum is not that of its body") \
+    X(19, LQ_PAGE_SLOTS, "a data page breaks a rule of slots: its item count, free start, free end or a slot is wrong")
 
 enum lq_refusal {
 #define LQ_REFUSAL_CONSTANT(number, name, meaning) name = number,
@@ -131,15 +136,20 @@ enum lq_step {
     LQ_STEP_DAMAGED = 4 /* forward: damage */
 };
 
-/* Whether every page is good. Refuses 1 and 11. */
+/* Whether every page is good. Refuses 1; then what is wrong with the first page that is not: 11, 17, 18 or 19. */
 void lq_verify(uint64_t magic, const uint8_t *pages, size_t len, uint64_t *out, size_t out_len);
 
+/* The same of the pages from an index on; numbers and places are those of all the pages. To find every bad page, go on
+ * behind the one that is given. A page lent by itself would be refused by 17. */
+void lq_verify_from(uint64_t magic, const uint8_t *pages, size_t len, uint64_t first, uint64_t *out, size_t out_len);
+
+/* The answer of both. */
 enum lq_verify_answer { LQ_VERIFY_NUMBER = 0, LQ_VERIFY_PLACE = 1 };
 #define LQ_VERIFY_NUMBERS 2
 
 /* Recovers the pages by the log. floor is an LSN up to which all is known to be flushed, 0 where nothing is known.
- * Refuses 1 to 14. Pages that the log changes are written anew in place, the others keep every byte. A run that was
- * broken off between pages may simply be repeated.
+ * Refuses 1 to 14 and 17 to 19. Pages that the log changes are written anew in place, the others keep every byte. A run
+ * that was broken off between pages may simply be repeated.
  * table takes table_len / LQ_RECORD_NUMBERS records, one for each Begin, in log order; later numbers stay. A log of n
  * bytes has at most (n - 32) / 43 Begins. */
 void lq_recover(uint64_t magic, uint64_t floor, uint8_t *pages, size_t pages_len, const uint8_t *log, size_t log_len,
@@ -195,8 +205,8 @@ enum lq_read_row_answer {
 /* Where a row's payload stands. */
 enum lq_source { LQ_FROM_NOWHERE = 0, LQ_FROM_LOG = 1, LQ_FROM_PAGES = 2 };
 
-/* The first row with deleted byte 0 on a page of type 1, at or after a slot of a page. Refuses 1 and 11: each call
- * checks every page. */
+/* The first row with deleted byte 0 on a page of type 1, at or after a slot of a page. Refuses as lq_verify does: each
+ * call checks every page. */
 void lq_next_visible(uint64_t magic, const uint8_t *pages, size_t len, uint64_t page, uint16_t slot, uint64_t *out,
                      size_t out_len);
 
@@ -213,8 +223,8 @@ enum lq_next_visible_answer {
 #define LQ_NEXT_VISIBLE_NUMBERS 7
 
 /* The rows with deleted byte 0 on pages of type 1, from a slot of a page on, as many as rows has room for:
- * rows_len / LQ_ROW_NUMBERS; later numbers stay. Refuses 1 and 11: each call checks every page, so lend room for many.
- * To go on, call again from the page and slot that are given back. */
+ * rows_len / LQ_ROW_NUMBERS; later numbers stay. Refuses as lq_verify does: each call checks every page, so lend room
+ * for many. To go on, call again from the page and slot that are given back. */
 void lq_list_visible(uint64_t magic, const uint8_t *pages, size_t len, uint64_t page, uint16_t slot, uint64_t *rows,
                      size_t rows_len, uint64_t *out, size_t out_len);
 
@@ -237,7 +247,7 @@ enum lq_row {
 #define LQ_ROW_NUMBERS 4
 
 /* Writes the map of free pages: bit i, lowest bit first, is 1 exactly if page i has type 4. It needs a byte for every 8
- * pages begun; spare bits of the last one are 0 and later bytes stay. Refuses 1, 11 and 16. */
+ * pages begun; spare bits of the last one are 0 and later bytes stay. Refuses as lq_verify does, then 16. */
 void lq_free_map(uint64_t magic, const uint8_t *pages, size_t len, uint8_t *map, size_t map_len, uint64_t *out,
                  size_t out_len);
 

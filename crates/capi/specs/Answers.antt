@@ -13,7 +13,7 @@ use Rattle.rules.specs.declared.Answer.{Answer}
 use Rattle.rules.specs.Order.{one}
 use Rattle.rules.specs.Row.{locatedOf}
 use Rattle.rules.specs.declared.Located.{Located}
-use Rattle.page.specs.Fault.{verdictOf}
+use Rattle.page.specs.Fault.{verdictFrom, verdictOf}
 use Rattle.page.specs.Rows.{nextRow, numbersOf}
 use Rattle.page.specs.FreeMap.{mapVerdict, freeCount}
 use Rattle.refusals.specs.declared.Verdict.{Verdict}
@@ -77,6 +77,10 @@ verdictNumbers v = v .number ∷ v .place ∷ []
 
 unfoldable pub verifyNumbers : ℕ → List ℕ → List ℕ
 verifyNumbers magic pages = verdictNumbers (verdictOf magic pages)
+
+-- lq_verify_from: the same
+unfoldable pub verifyFromNumbers : ℕ → List ℕ → ℕ → List ℕ
+verifyFromNumbers magic pages first = verdictNumbers (verdictFrom magic pages first)
 
 -- lq_next_visible: number, place, found, page, slot, tuple length, tuple offset in the page area
 abbrev pub rowNumbers : NextRow → List ℕ

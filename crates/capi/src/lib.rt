@@ -8,7 +8,7 @@ ghost use Prim.Native.Nat.{_/_};
 ghost use lib.ListN.{length};
 ghost use Rattle.page.specs.Rows.{numbersPerRow, rowList, rowsAfter};
 ghost use Rattle.page.specs.FreeMap.{mapAfter};
-ghost use Rattle.capi.specs.Answers.{version, given, openNumbers, stepNumbers, kindForward, kindBackward, forwardNumbers, backwardNumbers, verifyNumbers, rowNumbers, nextVisibleNumbers, listNumbers, freeMapNumbers, answerNumbers, locatedNumbers, readRowNumbers};
+ghost use Rattle.capi.specs.Answers.{version, given, openNumbers, stepNumbers, kindForward, kindBackward, forwardNumbers, backwardNumbers, verifyNumbers, verifyFromNumbers, rowNumbers, nextVisibleNumbers, listNumbers, freeMapNumbers, answerNumbers, locatedNumbers, readRowNumbers};
 ghost use Rattle.recovery.specs.Flat.{recoverFlat};
 use endian::Lsn;
 use endian::PageNumber;
@@ -147,6 +147,15 @@ pub extern "C" fn lq_verify(magic: u64, pages: &[u8], out: &mut [u64])
 {
     let v = page::verify(magic, pages);
     give(&[v.number, v.place], out);
+}
+
+// The same of the pages from an index on.
+#[no_mangle]
+pub extern "C" fn lq_verify_from(magic: u64, pages: &[u8], first: u64, out: &mut [u64])
+    ensures { λ _. ⌜ now (out .exit) ≡ given (verifyFromNumbers magic (now (pages .entry)) first) (now (out .entry)) ⌝ }
+{
+    let found = page::verify_from(magic, pages, PageNumber(first));
+    give(&[found.number, found.place], out);
 }
 
 // The numbers of what a listing step answers.

@@ -89,16 +89,15 @@ pub fn judge_log(
     }
 }
 
-// Refusals 11 and 12, page by page, of n pages, by the floor and the last LSN.
-pub fn judge_pages(t: &Tables, magic: u64, floor: Lsn, last: Lsn, pages: &[u8], n: usize) -> Verdict
+// Page by page, the page's fault (11, 17, 18, 19), then 12, by the floor and the last LSN.
+pub fn judge_pages(t: &Tables, magic: u64, floor: Lsn, last: Lsn, pages: &[u8]) -> Verdict
     requires { ⌜ Tables (now t) ⌝ }
-    requires { ⌜ n ≡ pagesIn (now pages) ⌝ }
-    ensures { λ r. ⌜ r ≡ pagesFrom magic (floor .0) (last .0) (now (pages .entry)) n 0 ⌝ }
+    ensures { λ r. ⌜ r ≡ pagesFrom magic (floor .0) (last .0) (now (pages .entry)) (pagesIn (now (pages .entry))) 0 ⌝ }
 {
     if floor.0 < last.0 {
-        return first_bad(t, magic, true, last.0, pages, n);
+        return first_bad(t, magic, true, last.0, pages, 0);
     }
-    first_bad(t, magic, true, floor.0, pages, n)
+    first_bad(t, magic, true, floor.0, pages, 0)
 }
 
 // Whether the entry at `at` changes a page beyond the n lent ones or not of type 1.

@@ -1,16 +1,21 @@
 -- The first fault of a page, case by case, in the order in which code meets them.
 -- Assumes nothing.
 use mathlib.Core.Path.{_≡_}
-use Prim.Native.Nat.{ℕ, _*_, _-_, _≤_, _<_}
+use mathlib.Core.Bool.{Bool, true, false}
+use Prim.Native.Nat.{ℕ, zero, suc, _+_, _*_, _-_, _≤_, _<_}
+use native.Mathlib.Decide.{decLe}
 use native.Mathlib.Omega.{arith}
 use mathlib.Core.List.{List}
 use lib.ListN.{length, take, drop, length-drop}
 use lib.Seq.{take-all}
+use lib.Dec.{leb, eqb}
 use borrow.Author.Tests.{lt-ltb, le-ltb, le-leb, lt-leb, eq-eqb, ne-eqb}
+use Rattle.endian.specs.Pick.{pick}
 use Rattle.crc32c.specs.Crc.{crc32c}
 use Rattle.page.specs.Layout.{headBytes, bodyBytes, slotLimit, dataType, lastType, magicOf, typeOf, countOf, crcOf, idOf, freeStartOf, freeEndOf, bodyOf}
-use Rattle.page.specs.Fault.{slotsFault, dataFault, faultOf}
-use Rattle.page.specs.declared.Fault.the-variants.{Sound, MagicOrType, Id, Checksum, Count, FreeStart, FreeEnd}
+use Rattle.page.specs.Fault.{slotFaulty, slotsFault, dataFault, faultOf, slotIn}
+use Rattle.page.specs.declared.Fault.{Fault}
+use Rattle.page.specs.declared.Fault.the-variants.{Sound, MagicOrType, Id, Checksum, Count, FreeStart, FreeEnd, Slot}
 
 -- `&page[64..]` is the body
 pub body-part : (p : List ℕ) → take (length p - headBytes) (drop headBytes p) ≡ bodyOf p
@@ -68,3 +73,27 @@ module _ (magic index : ℕ) (p : List ℕ) where
           pub case-data : typeOf p ≡ dataType → dataFault p ≡ faultOf magic index p
           unfolding faultOf
           case-data h = simp (eq-eqb _ _ m, le-leb _ _ t, eq-eqb _ _ i, eq-eqb _ _ r, eq-eqb _ _ h)
+
+-- ---- the slot that a fault names is one of a page's
+
+low-pick : (t : Bool) (a b : Fault) → slotIn a < slotLimit → slotIn b < slotLimit → slotIn (pick t a b) < slotLimit
+low-pick true a b l m = l
+low-pick false a b l m = m
+
+low-slots : (b : List ℕ) (end n k : ℕ) → k + n ≤ slotLimit → slotIn (slotsFault b end n k) < slotLimit
+unfolding slotsFault
+low-slots b end zero k l = omega arith
+low-slots b end (suc n) k l = low-pick (slotFaulty b end k) (Slot k) _ (omega arith) (low-slots b end n (suc k) (omega arith))
+
+low-data : (p : List ℕ) → slotIn (dataFault p) < slotLimit
+unfolding dataFault
+low-data p =
+    elim (decLe (countOf p) slotLimit) [
+      | yes l ↦ rw (le-ltb _ _ l) (low-pick (eqb (freeStartOf p) (4 * countOf p)) _ FreeStart (low-pick (leb (freeStartOf p) (freeEndOf p)) _ FreeEnd (low-pick (leb (freeEndOf p) bodyBytes) _ FreeEnd (low-slots _ _ (countOf p) 0 (omega arith)) (omega arith)) (omega arith)) (omega arith))
+      | no l ↦ rw (lt-ltb slotLimit (countOf p) (omega arith)) (omega arith)
+    ]
+
+pub low-slot : (magic index : ℕ) (p : List ℕ) → slotIn (faultOf magic index p) < slotLimit
+unfolding faultOf
+low-slot magic index p =
+    low-pick (eqb (magicOf p) magic) _ MagicOrType (low-pick (leb (typeOf p) lastType) _ MagicOrType (low-pick (eqb (idOf p) index) _ Id (low-pick (eqb (crcOf p) (crc32c (bodyOf p))) _ Checksum (low-pick (eqb (typeOf p) dataType) _ Sound (low-data p) (omega arith)) (omega arith)) (omega arith)) (omega arith)) (omega arith)

@@ -211,7 +211,7 @@ module _ (i k : ℕ) where
 
 -- pages that verification accepts
 pub listable : (magic : ℕ) (s : List ℕ) → verdictOf magic s .number ≡ 0 → Listable s
-listable magic s e = record { at = λ i l t. accepted-good magic s e i l .dataGood t }
+listable magic s e = record { at = λ i l t. accepted-good magic s 0 e i (omega arith) l .dataGood t }
 
 module _ (magic : ℕ) (s : List ℕ) (i k : ℕ) where
   pub listing-refused : (verdictOf magic s .number ≡ 0 → ⊥) → Refused (verdictOf magic s) ≡ nextRow magic s i k

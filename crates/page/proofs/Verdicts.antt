@@ -7,23 +7,20 @@ use Prim.Native.Nat.{ℕ, zero, suc, _+_, _-_, _*_, _%_, _≤_, _<_}
 use native.Mathlib.Decide.{decLe}
 use native.Mathlib.Numerals.{add-one}
 use native.Mathlib.Omega.{arith}
-use mathlib.Core.List.{List, [], _∷_}
+use mathlib.Core.List.{List}
 use lib.ListN.{length, take, drop, length-drop}
 use lib.Seq.{length-take-le}
 use lib.Dec.{ltb}
 use borrow.Author.Tests.{le-ltb, eq-eqb, ne-eqb, ltb-false, eqb-true}
-use types.Run.{OneOf, miss}
-use denote.Enum.Declared.{tagOf}
 use Rattle.endian.specs.Pick.{pick}
 use Rattle.page.specs.Layout.{pageBytes, pageLimit, pagesIn, pageAt, lsnOf}
 use Rattle.page.specs.Good.{Good}
 use Rattle.refusals.specs.Verdict.{verdict, accepted, _then_}
 use Rattle.refusals.proofs.Then.{then-refused, then-accepted, then-zero}
-use Rattle.page.specs.Fault.{faultOf, faultVerdict, neverLate, pageVerdict, firstBad, sizeWrong, verdictOf}
+use Rattle.page.specs.Fault.{faultOf, faultVerdict, neverLate, pageVerdict, firstBad, sizeWrong, verdictFrom}
 use Rattle.page.specs.declared.Fault.{Fault}
 use Rattle.page.specs.declared.Fault.the-variants.{Sound, MagicOrType, Id, Checksum, Count, FreeStart, FreeEnd, Slot}
 use Rattle.refusals.specs.declared.Verdict.{Verdict}
-use Rattle.page.proofs.Fault.{the-type}
 use Rattle.page.proofs.Picks.{never, cleared}
 use Rattle.page.proofs.FaultLaws.{isSound, sound-good, good-sound}
 
@@ -48,17 +45,6 @@ judge Count i = inr (λ e. never (ap isSound e), λ z. omega arith)
 judge FreeStart i = inr (λ e. never (ap isSound e), λ z. omega arith)
 judge FreeEnd i = inr (λ e. never (ap isSound e), λ z. omega arith)
 judge (Slot k) i = inr (λ e. never (ap isSound e), λ z. omega arith)
-
--- as a `let .. else` on the fault finds it
-pub fault-else : (f : Fault) (i : ℕ) → OneOf (1 ∷ 2 ∷ 3 ∷ 4 ∷ 5 ∷ 6 ∷ 7 ∷ []) (tagOf the-type f) → verdict 11 i ≡ faultVerdict f i
-fault-else Sound i o = absurd (miss (1 ∷ 2 ∷ 3 ∷ 4 ∷ 5 ∷ 6 ∷ 7 ∷ []) 0 tt o)
-fault-else MagicOrType i o = refl
-fault-else Id i o = refl
-fault-else Checksum i o = refl
-fault-else Count i o = refl
-fault-else FreeStart i o = refl
-fault-else FreeEnd i o = refl
-fault-else (Slot k) i o = refl
 
 -- ---- one page
 
@@ -98,9 +84,6 @@ module _ (late : ℕ → Bool) (magic i : ℕ) (p : List ℕ) where
 -- ---- the search
 
 module _ (late : ℕ → Bool) (magic : ℕ) (s : List ℕ) where
-  pub bad-start : (n : ℕ) → firstBad late magic s (n - 0) 0 ≡ firstBad late magic s n 0
-  bad-start n = let z : n - 0 ≡ n = omega arith in rw z
-
   turn : (n i : ℕ) → i < n → firstBad late magic s (n - i) i ≡ (pageVerdict late magic i (pageAt i s) then firstBad late magic s (n - (i + 1)) (i + 1))
   unfolding firstBad
   turn n i l = let z : n - i ≡ suc (n - (i + 1)) = omega arith in rw (z, add-one)
@@ -135,15 +118,16 @@ module _ (s : List ℕ) where
   unfolding sizeWrong
   size-many h = sym (rw (eq-eqb _ 0 h))
 
--- ---- what it finds
+-- ---- what it finds, from a page on
 
-abbrev pub AllGood : ℕ → List ℕ → Type 0
-AllGood magic s = (i : ℕ) → i < pagesIn s → Good magic i (pageAt i s)
+abbrev pub GoodFrom : ℕ → List ℕ → ℕ → Type 0
+GoodFrom magic s first = (i : ℕ) → first ≤ i → i < pagesIn s → Good magic i (pageAt i s)
 
--- page i is the first that is not good
-pub record Bad (magic : ℕ) (s : List ℕ) (i : ℕ) : Type 0 where
+-- page i is the first from `first` on that is not good
+pub record Bad (magic : ℕ) (s : List ℕ) (first i : ℕ) : Type 0 where
+  pub from : first ≤ i
   pub within : i < pagesIn s
-  pub before : (j : ℕ) → j < i → Good magic j (pageAt j s)
+  pub before : (j : ℕ) → first ≤ j → j < i → Good magic j (pageAt j s)
   pub here : Good magic i (pageAt i s) → ⊥
 
 abbrev pub number-of : Verdict → ℕ
@@ -154,26 +138,26 @@ abbrev pub refusal : ℕ → List ℕ → ℕ → Verdict
 refusal magic s i = faultVerdict (faultOf magic i (pageAt i s)) i
 
 -- a verdict of the search: accepted and all good, or the refusal of the first that is not
-abbrev pub Found : ℕ → List ℕ → Verdict → Type 0
-Found magic s v = ((v ≡ accepted) × AllGood magic s) ⊎ ((i : ℕ) × (v ≡ refusal magic s i) × Bad magic s i)
+abbrev pub Found : ℕ → List ℕ → ℕ → Verdict → Type 0
+Found magic s first v = ((v ≡ accepted) × GoodFrom magic s first) ⊎ ((i : ℕ) × (v ≡ refusal magic s i) × Bad magic s first i)
 
-found-same : {magic : ℕ} {s : List ℕ} {v w : Verdict} → v ≡ w → Found magic s w → Found magic s v
+found-same : {magic : ℕ} {s : List ℕ} {first : ℕ} {v w : Verdict} → v ≡ w → Found magic s first w → Found magic s first v
 found-same e (inl r) = inl (e ∙ r .0, r .1)
 found-same e (inr r) = inr (r .0, e ∙ r .1, r .2)
 
-module _ (magic : ℕ) (s : List ℕ) where
+module _ (magic : ℕ) (s : List ℕ) (first : ℕ) where
   -- the n pages from i on, of which those before are good
-  found : (n i : ℕ) → i + n ≡ pagesIn s → ((j : ℕ) → j < i → Good magic j (pageAt j s)) → Found magic s (firstBad neverLate magic s n i)
+  found : (n i : ℕ) → n ≡ pagesIn s - i → first ≤ i → ((j : ℕ) → first ≤ j → j < i → Good magic j (pageAt j s)) → Found magic s first (firstBad neverLate magic s n i)
   unfolding firstBad
-  found zero i e b = inl (refl, λ j l. b j (omega arith))
-  found (suc n) i e b =
+  found zero i e f b = inl (refl, λ j m l. b j m (omega arith))
+  found (suc n) i e f b =
       elim (judge (faultOf magic i (pageAt i s)) i) [
-        | inl p ↦ found-same (then-accepted _ _ (ap number-of (fine-page neverLate magic i (pageAt i s) (p .0) refl))) (found n (suc i) (omega arith) (upto (sound-good magic i (pageAt i s) (page-length s i (omega arith)) (p .0))))
-        | inr p ↦ inr (i, refused (p .1), record { within = omega arith; before = b; here = λ g. p .0 (good-sound magic i (pageAt i s) g) })
+        | inl p ↦ found-same (then-accepted _ _ (ap number-of (fine-page neverLate magic i (pageAt i s) (p .0) refl))) (found n (suc i) (omega arith) (omega arith) (upto (sound-good magic i (pageAt i s) (page-length s i (omega arith)) (p .0))))
+        | inr p ↦ inr (i, refused (p .1), record { from = f; within = omega arith; before = b; here = λ g. p .0 (good-sound magic i (pageAt i s) g) })
       ]
     where
-      upto : Good magic i (pageAt i s) → (j : ℕ) → j < suc i → Good magic j (pageAt j s)
-      upto g j l = elim (decLe i j) [ yes m ↦ let z : j ≡ i = omega arith in rw z g | no m ↦ b j (omega arith) ]
+      upto : Good magic i (pageAt i s) → (j : ℕ) → first ≤ j → j < suc i → Good magic j (pageAt j s)
+      upto g j m l = elim (decLe i j) [ yes k ↦ let z : j ≡ i = omega arith in rw z g | no k ↦ b j m (omega arith) ]
 
       refused : (refusal magic s i .number ≡ 0 → ⊥) → (pageVerdict neverLate magic i (pageAt i s) then firstBad neverLate magic s n (suc i)) ≡ refusal magic s i
       refused h =
@@ -181,25 +165,25 @@ module _ (magic : ℕ) (s : List ℕ) where
           rw (← e) (then-refused (refusal magic s i) _ h)
 
   -- refusal 1, or what the search finds
-  pub verdict-cases : ((sizeWrong s ≡ true) × (verdictOf magic s ≡ verdict 1 0)) ⊎ ((sizeWrong s ≡ false) × Found magic s (verdictOf magic s))
-  unfolding verdictOf
-  verdict-cases = by-size (sizeWrong s) (found (pagesIn s) 0 (omega arith) (λ j l. absurd (omega arith)))
+  pub verdict-cases : ((sizeWrong s ≡ true) × (verdictFrom magic s first ≡ verdict 1 0)) ⊎ ((sizeWrong s ≡ false) × Found magic s first (verdictFrom magic s first))
+  unfolding verdictFrom
+  verdict-cases = by-size (sizeWrong s) (found (pagesIn s - first) first refl (omega arith) (λ j m l. absurd (omega arith)))
     where
-      by-size : (t : Bool) {v : Verdict} → Found magic s v → ((t ≡ true) × (pick t (verdict 1 0) v ≡ verdict 1 0)) ⊎ ((t ≡ false) × Found magic s (pick t (verdict 1 0) v))
+      by-size : (t : Bool) {v : Verdict} → Found magic s first v → ((t ≡ true) × (pick t (verdict 1 0) v ≡ verdict 1 0)) ⊎ ((t ≡ false) × Found magic s first (pick t (verdict 1 0) v))
       by-size true f = inl (refl, refl)
       by-size false f = inr (refl, f)
 
   -- as code goes through the cases
-  pub case-size : sizeWrong s ≡ true → verdict 1 0 ≡ verdictOf magic s
-  unfolding verdictOf
+  pub case-size : sizeWrong s ≡ true → verdict 1 0 ≡ verdictFrom magic s first
+  unfolding verdictFrom
   case-size e = sym (rw e)
 
-  pub case-search : sizeWrong s ≡ false → firstBad neverLate magic s (pagesIn s) 0 ≡ verdictOf magic s
-  unfolding verdictOf
+  pub case-search : sizeWrong s ≡ false → firstBad neverLate magic s (pagesIn s - first) first ≡ verdictFrom magic s first
+  unfolding verdictFrom
   case-search e = sym (rw e)
 
   -- a page that is not good is refused
-  refused : (i : ℕ) → Bad magic s i → refusal magic s i .number ≡ 0 → ⊥
+  refused : (i : ℕ) → Bad magic s first i → refusal magic s i .number ≡ 0 → ⊥
   refused i b e =
       elim (judge (faultOf magic i (pageAt i s)) i) [
         | inl p ↦ b .here (sound-good magic i (pageAt i s) (page-length s i (b .within)) (p .0))
@@ -207,33 +191,33 @@ module _ (magic : ℕ) (s : List ℕ) where
       ]
 
   -- accepted exactly if the size is right and all pages are good
-  pub accepted-good : verdictOf magic s .number ≡ 0 → AllGood magic s
+  pub accepted-good : verdictFrom magic s first .number ≡ 0 → GoodFrom magic s first
   accepted-good e = elim verdict-cases [ inl p ↦ absurd (omega (arith, ap number-of (p .1))) | inr p ↦ good (p .1) ]
     where
-      good : Found magic s (verdictOf magic s) → AllGood magic s
+      good : Found magic s first (verdictFrom magic s first) → GoodFrom magic s first
       good (inl r) = r .1
       good (inr r) = absurd (refused (r .0) (r .2) (sym (ap number-of (r .1)) ∙ e))
 
-  pub accepted-size : verdictOf magic s .number ≡ 0 → (length s % pageBytes ≡ 0) × (pagesIn s ≤ pageLimit)
+  pub accepted-size : verdictFrom magic s first .number ≡ 0 → (length s % pageBytes ≡ 0) × (pagesIn s ≤ pageLimit)
   accepted-size e = elim verdict-cases [ inl p ↦ absurd (omega (arith, ap number-of (p .1))) | inr p ↦ right-size s (p .0) ]
 
   module _ (m : length s % pageBytes ≡ 0) (l : pagesIn s ≤ pageLimit) where
-    searched : Found magic s (verdictOf magic s)
+    searched : Found magic s first (verdictFrom magic s first)
     searched = elim verdict-cases [ inl p ↦ never (sym (size-right s m l) ∙ p .0) | inr p ↦ p .1 ]
 
-    pub good-accepted : AllGood magic s → verdictOf magic s ≡ accepted
-    good-accepted g = elim searched [ inl r ↦ r .0 | inr r ↦ absurd (r .2 .here (g (r .0) (r .2 .within))) ]
+    pub good-accepted : GoodFrom magic s first → verdictFrom magic s first ≡ accepted
+    good-accepted g = elim searched [ inl r ↦ r .0 | inr r ↦ absurd (r .2 .here (g (r .0) (r .2 .from) (r .2 .within))) ]
 
     -- the refusal of the first page that is not good
-    pub bad-refused : (i : ℕ) → Bad magic s i → verdictOf magic s ≡ refusal magic s i
-    bad-refused i b = elim searched [ inl r ↦ absurd (b .here (r .1 i (b .within))) | inr r ↦ same (r .0) (r .1) (r .2) ]
+    pub bad-refused : (i : ℕ) → Bad magic s first i → verdictFrom magic s first ≡ refusal magic s i
+    bad-refused i b = elim searched [ inl r ↦ absurd (b .here (r .1 i (b .from) (b .within))) | inr r ↦ same (r .0) (r .1) (r .2) ]
       where
-        same : (k : ℕ) → verdictOf magic s ≡ refusal magic s k → Bad magic s k → verdictOf magic s ≡ refusal magic s i
+        same : (k : ℕ) → verdictFrom magic s first ≡ refusal magic s k → Bad magic s first k → verdictFrom magic s first ≡ refusal magic s i
         same k e d =
             elim (decLe k i) [
               | yes p ↦ elim (decLe i k) [
                 | yes q ↦ let z : k ≡ i = omega arith in rw (← z) e
-                | no q ↦ absurd (d .here (b .before k (omega arith)))
+                | no q ↦ absurd (d .here (b .before k (d .from) (omega arith)))
               ]
-              | no p ↦ absurd (b .here (d .before i (omega arith)))
+              | no p ↦ absurd (b .here (d .before i (b .from) (omega arith)))
             ]

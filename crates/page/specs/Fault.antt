@@ -1,15 +1,16 @@
--- The first fault of a page, in this order: magic or type, id, checksum; of a Data page the header's fields, then the slots. And the verdict on a page area (paper 01, Pages, Numbers given back).
-use Prim.Native.Nat.{ℕ, zero, suc, _+_, _*_, _%_, max, min}
+-- The first fault of a page, in this order: magic or type, id, checksum; of a Data page the header's fields, then the slots. And the verdict on a page area (paper 01, Pages,
+-- Numbers given back; paper 02, W1).
+use Prim.Native.Nat.{ℕ, zero, suc, _+_, _*_, _-_, _%_, max, min}
 use mathlib.Core.List.{List}
 use mathlib.Core.Bool.{Bool, true, false}
 use lib.ListN.{length}
 use lib.Dec.{ltb, leb, eqb}
-use Rattle.refusals.specs.Refusal.{pageArea, pageNotGood, pageLsn}
+use Rattle.refusals.specs.Refusal.{pageArea, pageMagicOrType, pageId, pageChecksum, pageSlots, pageLsn}
 use Rattle.refusals.specs.Verdict.{verdict, accepted, _then_}
 use Rattle.endian.specs.Pick.{pick}
 use Rattle.endian.specs.Numbers.{part}
 use Rattle.crc32c.specs.Crc.{crc32c}
-use Rattle.page.specs.Layout.{pageBytes, bodyBytes, pageLimit, slotLimit, rowHead, dataType, lastType, pagesIn, pageAt, magicOf, typeOf, countOf, crcOf, idOf, lsnOf, freeStartOf, freeEndOf, bodyOf, slotOff, slotLen, deletedOf}
+use Rattle.page.specs.Layout.{pageBytes, headBytes, bodyBytes, pageLimit, slotLimit, countAt, freeStartAt, freeEndAt, rowHead, dataType, lastType, pagesIn, pageAt, magicOf, typeOf, countOf, crcOf, idOf, lsnOf, freeStartOf, freeEndOf, bodyOf, slotOff, slotLen, deletedOf}
 use Rattle.page.specs.declared.Fault.{Fault}
 use Rattle.page.specs.declared.Fault.the-variants.{Sound, MagicOrType, Id, Checksum, Count, FreeStart, FreeEnd, Slot}
 use Rattle.refusals.specs.declared.Verdict.{Verdict}
@@ -71,18 +72,33 @@ faultOf magic index p =
     MagicOrType)
     MagicOrType
 
+-- the slot that a fault names; 0 where it names none
+abbrev pub slotIn : Fault → ℕ
+slotIn Sound = 0
+slotIn MagicOrType = 0
+slotIn Id = 0
+slotIn Checksum = 0
+slotIn Count = 0
+slotIn FreeStart = 0
+slotIn FreeEnd = 0
+slotIn (Slot k) = k
+
 -- ---- a page area
+
+-- refusal 19: the field or slot at an offset of page i, by its offset in the page area
+abbrev pub slotRule : ℕ → ℕ → Verdict
+slotRule i at = verdict pageSlots (pageBytes * i + at)
 
 -- what a fault of the page at an index is refused by, and where
 abbrev pub faultVerdict : Fault → ℕ → Verdict
 faultVerdict Sound i = accepted
-faultVerdict MagicOrType i = verdict pageNotGood i
-faultVerdict Id i = verdict pageNotGood i
-faultVerdict Checksum i = verdict pageNotGood i
-faultVerdict Count i = verdict pageNotGood i
-faultVerdict FreeStart i = verdict pageNotGood i
-faultVerdict FreeEnd i = verdict pageNotGood i
-faultVerdict (Slot k) i = verdict pageNotGood i
+faultVerdict MagicOrType i = verdict pageMagicOrType i
+faultVerdict Id i = verdict pageId i
+faultVerdict Checksum i = verdict pageChecksum i
+faultVerdict Count i = slotRule i countAt
+faultVerdict FreeStart i = slotRule i freeStartAt
+faultVerdict FreeEnd i = slotRule i freeEndAt
+faultVerdict (Slot k) i = slotRule i (headBytes + 4 * k)
 
 -- which LSNs of a page are refused: those above a known one; in verification none
 abbrev pub lateAt : ℕ → ℕ → Bool
@@ -108,5 +124,10 @@ firstBad late magic s (suc n) i = pageVerdict late magic i (pageAt i s) then fir
 unfoldable pub sizeWrong : List ℕ → Bool
 sizeWrong s = pick (eqb (length s % pageBytes) 0) (ltb pageLimit (pagesIn s)) true
 
-unfoldable pub verdictOf : ℕ → List ℕ → Verdict
-verdictOf magic s = pick (sizeWrong s) (verdict pageArea 0) (firstBad neverLate magic s (pagesIn s) 0)
+-- refusal 1, then the first refusal of the pages from an index on, each as a page of the whole area
+unfoldable pub verdictFrom : ℕ → List ℕ → ℕ → Verdict
+verdictFrom magic s i = pick (sizeWrong s) (verdict pageArea 0) (firstBad neverLate magic s (pagesIn s - i) i)
+
+-- verification: the pages from 0 on
+abbrev pub verdictOf : ℕ → List ℕ → Verdict
+verdictOf magic s = verdictFrom magic s 0

@@ -39,7 +39,7 @@ unfoldable pub freePages : List ℕ → ℕ → ℕ → ℕ
 freePages s zero i = 0
 freePages s (suc n) i = freeBit s i + freePages s n (suc i)
 
--- refusals 1 and 11 as verification, then 16 where the map is too short
+-- refused as verification refuses, then by 16 where the map is too short
 unfoldable pub mapVerdict : ℕ → List ℕ → List ℕ → Verdict
 mapVerdict magic s map =
     pick (eqb (verdictOf magic s .number) 0)

@@ -1,13 +1,14 @@
 // What other crates call with a `requires`: a page's fields, its first fault, the next visible row, the packed page writer, and the bits of a map of free pages.
 ghost use mathlib.Core.Path.{_≡_};
-ghost use Prim.Native.Nat.{ℕ, _+_, _*_, _-_, _≤_, _<_};
+ghost use Prim.Native.Nat.{ℕ, _+_, _*_, _-_, _^_, _≤_, _<_};
 ghost use lib.ListN.{length};
 ghost use lib.Seq.{paste};
 ghost use Rattle.crc32c.specs.Crc.{crc32c as crcOfBytes};
 ghost use Rattle.crc32c.specs.Tables.{Tables};
 ghost use Rattle.page.specs.Layout.{pageBytes, reservedBytes, bodyBytes, slotLimit, pagesIn, magicOf, typeOf, countOf, idOf, lsnOf, bodyOf, slotOff, slotLen};
-ghost use Rattle.page.specs.Fault.{dataFault, faultOf, faultVerdict, lateOf, pageVerdict, firstBad, sizeWrong, verdictOf};
+ghost use Rattle.page.specs.Fault.{dataFault, faultOf, slotIn, slotRule, faultVerdict, lateOf, pageVerdict, firstBad, sizeWrong, verdictFrom};
 ghost use Rattle.endian.specs.Pick.{pick};
+ghost use Rattle.refusals.specs.Verdict.{verdict};
 ghost use Rattle.page.specs.Rows.{Listable, visibleRows, firstAt};
 ghost use Rattle.page.specs.FreeMap.{freeBit, onesOf};
 ghost use Rattle.page.specs.Writer.{withSlot, headOf, sealed};
@@ -46,8 +47,11 @@ use endian::inner::u16_at;
 use endian::inner::u32_at;
 use endian::inner::u64_at;
 use refusals::PAGE_AREA;
+use refusals::PAGE_CHECKSUM;
+use refusals::PAGE_ID;
 use refusals::PAGE_LSN;
-use refusals::PAGE_NOT_GOOD;
+use refusals::PAGE_MAGIC_OR_TYPE;
+use refusals::PAGE_SLOTS;
 use refusals::Verdict;
 
 // Where in a page the offset and the length of slot 0 stand; a slot has four bytes.
@@ -163,19 +167,37 @@ pub fn fault(t: &Tables, magic: u64, index: PageNumber, page: &[u8]) -> Fault
     data_fault(page)
 }
 
+fn refusal(number: u64, place: usize) -> Verdict
+    ensures { λ r. ⌜ r ≡ verdict number place ⌝ }
+{
+    Verdict {
+        number: number,
+        place: place as u64,
+    }
+}
+
+// Refusal 19 of the field or slot at an offset of the page at an index.
+fn slot_rule(index: usize, at: usize) -> Verdict
+    requires { ⌜ (pageBytes * index + pageBytes < 2 ^ 64) × (at < pageBytes) ⌝ }
+    ensures { λ r. ⌜ r ≡ slotRule index at ⌝ }
+{
+    refusal(PAGE_SLOTS, PAGE_BYTES * index + at)
+}
+
 // What a fault of the page at an index is refused by.
 fn fault_verdict(f: Fault, index: usize) -> Verdict
+    requires { ⌜ (pageBytes * index + pageBytes < 2 ^ 64) × (slotIn f < slotLimit) ⌝ }
     ensures { λ r. ⌜ r ≡ faultVerdict f index ⌝ }
 {
-    let Fault::Sound = f else {
-        return Verdict {
-            number: PAGE_NOT_GOOD,
-            place: index as u64,
-        };
-    };
-    Verdict {
-        number: 0,
-        place: 0,
+    match f {
+        Fault::Sound => refusal(0, 0),
+        Fault::MagicOrType => refusal(PAGE_MAGIC_OR_TYPE, index),
+        Fault::Id => refusal(PAGE_ID, index),
+        Fault::Checksum => refusal(PAGE_CHECKSUM, index),
+        Fault::Count => slot_rule(index, COUNT_AT),
+        Fault::FreeStart => slot_rule(index, FREE_START_AT),
+        Fault::FreeEnd => slot_rule(index, FREE_END_AT),
+        Fault::Slot(k) => slot_rule(index, OFFSETS_AT + 4 * k),
     }
 }
 
@@ -189,7 +211,7 @@ fn is_late(bounded: bool, known: u64, lsn: Lsn) -> bool
     known < lsn.0
 }
 
-// Refusal 11 or 12 of the page at an index.
+// What the page at an index is refused by: its fault, then 12.
 fn page_verdict(
     t: &Tables,
     magic: u64,
@@ -199,7 +221,7 @@ fn page_verdict(
     page: &[u8],
 ) -> Verdict
     requires { ⌜ Tables (now t) ⌝ }
-    requires { ⌜ length (now page) ≡ pageBytes ⌝ }
+    requires { ⌜ (length (now page) ≡ pageBytes) × (pageBytes * index + pageBytes < 2 ^ 64) ⌝ }
     ensures { λ r. ⌜ r ≡ pageVerdict (lateOf bounded known) magic index (now (page .entry)) ⌝ }
 {
     let v = fault_verdict(fault(t, magic, PageNumber(index as u64), page), index);
@@ -207,31 +229,25 @@ fn page_verdict(
         return v;
     }
     if is_late(bounded, known, lsn(page)) {
-        return Verdict {
-            number: PAGE_LSN,
-            place: index as u64,
-        };
+        return refusal(PAGE_LSN, index);
     }
-    Verdict {
-        number: 0,
-        place: 0,
-    }
+    refusal(0, 0)
 }
 
-// The first refusal of count pages.
+// The first refusal of the pages from an index on.
 pub fn first_bad(
     t: &Tables,
     magic: u64,
     bounded: bool,
     known: u64,
     pages: &[u8],
-    count: usize,
+    first: usize,
 ) -> Verdict
     requires { ⌜ Tables (now t) ⌝ }
-    requires { ⌜ count ≡ pagesIn (now pages) ⌝ }
-    ensures { λ r. ⌜ r ≡ firstBad (lateOf bounded known) magic (now (pages .entry)) count 0 ⌝ }
+    ensures { λ r. ⌜ r ≡ firstBad (lateOf bounded known) magic (now (pages .entry)) (pagesIn (now (pages .entry)) - first) first ⌝ }
 {
-    let mut i: usize = 0;
+    let count = pages.len() / PAGE_BYTES;
+    let mut i = first;
     while i < count {
         let a = i * PAGE_BYTES;
         let e = a + PAGE_BYTES;
@@ -241,10 +257,7 @@ pub fn first_bad(
         }
         i += 1;
     }
-    Verdict {
-        number: 0,
-        place: 0,
-    }
+    refusal(0, 0)
 }
 
 // Whether page bytes are no multiple of a page's, or too many pages.
@@ -257,18 +270,15 @@ pub fn size_wrong(pages: &[u8]) -> bool
     PAGE_LIMIT < pages.len() / PAGE_BYTES
 }
 
-// Refusals 1 and 11, over lent tables.
-pub fn verify(t: &Tables, magic: u64, pages: &[u8]) -> Verdict
+// Refusal 1, then those of the pages from an index on, over lent tables.
+pub fn verify_from(t: &Tables, magic: u64, pages: &[u8], first: usize) -> Verdict
     requires { ⌜ Tables (now t) ⌝ }
-    ensures { λ r. ⌜ r ≡ verdictOf magic (now (pages .entry)) ⌝ }
+    ensures { λ r. ⌜ r ≡ verdictFrom magic (now (pages .entry)) first ⌝ }
 {
     if size_wrong(pages) {
-        return Verdict {
-            number: PAGE_AREA,
-            place: 0,
-        };
+        return refusal(PAGE_AREA, 0);
     }
-    first_bad(t, magic, false, 0, pages, pages.len() / PAGE_BYTES)
+    first_bad(t, magic, false, 0, pages, first)
 }
 
 // The first visible row at or after a slot of the page at an index, on pages that were verified. A search goes on behind the row that it gives.

@@ -1,6 +1,6 @@
 // The page format: the first fault of a page, slots, visible rows, the map of free pages, and the packed page.
 ghost use mathlib.Core.Path.{_≡_};
-ghost use Rattle.page.specs.Fault.{verdictOf};
+ghost use Rattle.page.specs.Fault.{verdictFrom, verdictOf};
 ghost use Prim.Native.Nat.{_/_};
 ghost use lib.ListN.{length};
 ghost use Rattle.page.specs.Rows.{nextRow, numbersPerRow, rowList, rowsAfter};
@@ -113,15 +113,22 @@ pub struct FreeMap {
     pub free: u64,
 }
 
-// Whether every page is good: refusals 1 and 11, the place of 11 the first bad page's index.
+// Whether every page is good: refusal 1, then the first bad page's, by 11, 17, 18 or 19.
 pub fn verify(magic: u64, pages: &[u8]) -> Verdict
     ensures { λ r. ⌜ r ≡ verdictOf magic (now (pages .entry)) ⌝ }
 {
-    let t = crc32c::inner::tables();
-    inner::verify(&t, magic, pages)
+    verify_from(magic, pages, PageNumber(0))
 }
 
-// The first visible row at or after a slot of a page. Refuses 1 and 11.
+// The same of the pages from an index on, so that a caller finds every bad page one after the other. Numbers, places and ids are those of the whole area.
+pub fn verify_from(magic: u64, pages: &[u8], first: PageNumber) -> Verdict
+    ensures { λ r. ⌜ r ≡ verdictFrom magic (now (pages .entry)) (first .0) ⌝ }
+{
+    let t = crc32c::inner::tables();
+    inner::verify_from(&t, magic, pages, first.0 as usize)
+}
+
+// The first visible row at or after a slot of a page. Refuses as `verify` does.
 pub fn next_visible(magic: u64, pages: &[u8], page: PageNumber, slot: usize) -> NextRow
     ensures { λ r. ⌜ r ≡ nextRow magic (now (pages .entry)) (page .0) slot ⌝ }
 {
@@ -133,7 +140,8 @@ pub fn next_visible(magic: u64, pages: &[u8], page: PageNumber, slot: usize) -> 
 }
 
 // Fills the lent numbers with the visible rows at or after a slot of a page, four numbers a row: page, slot, length, offset in the page area; verifies the pages once. Gives
-// back how many rows there are, and the place of the first that found no room, or the count of pages and 0 where all are given. Refuses 1 and 11, which leave the numbers as they are.
+// back how many rows there are, and the place of the first that found no room, or the count of pages and 0 where all are given. Refuses as `verify` does, which leaves the
+// numbers as they are.
 pub fn list_visible(
     magic: u64,
     pages: &[u8],
@@ -156,8 +164,8 @@ pub fn list_visible(
     list::fill(pages, page.0 as usize, slot, out)
 }
 
-// Writes the map of free pages: bit i, lowest bit first, is 1 exactly if page i is free; needed bytes whole, spare bits 0. Refuses 1, 11 and 16, which
-// leave the map as it is.
+// Writes the map of free pages: bit i, lowest bit first, is 1 exactly if page i is free; needed bytes whole, spare bits 0. Refuses as `verify` does,
+// then by 16, which leaves the map as it is.
 pub fn free_map(magic: u64, pages: &[u8], map: &mut [u8]) -> FreeMap
     ensures { λ r. ⌜ r .verdict ≡ mapVerdict magic (now (pages .entry)) (now (map .entry)) ⌝ }
     ensures { λ r. ⌜ r .free ≡ freeCount magic (now (pages .entry)) (now (map .entry)) ⌝ }

@@ -1,10 +1,11 @@
-// The page cases: a page with each kind of fault, visible rows one by one and many at a time, and a free map.
+// The page cases: a page with each kind of fault, which of several faults and bad pages is given, visible rows one by one and many at a time, and a free map.
 ghost use mathlib.Core.Path.{_≡_};
 ghost use lib.ListN.{length};
 use endian::PageNumber;
 use page::Fault;
 use page::NextRow;
 use page::RowList;
+use refusals::Verdict;
 
 const MAGIC: u64 = 0x0123_4567_89AB_CDEF;
 
@@ -146,6 +147,91 @@ fn pair_cases() {
     two_slots();
 }
 
+// ---- which of several faults is given
+
+fn show_verdict(name: &[u8], v: Verdict) {
+    word(name);
+    number(b": ", v.number);
+    number(b" at ", v.place);
+    word(b"\n");
+}
+
+// Two pages, of which the first is good and the second has a magic, a type and an id, and its header's numbers.
+fn pair(magic: u64, kind: u16, id: u16, crc: u32, count: u16, start: u16, end: u16) -> [u8; 32768] {
+    let mut q = with(with(with(base(), 8, kind), 16, id), 10, count);
+    endian::put_u64(&mut q, 0, magic);
+    endian::put_u32(&mut q, 12, crc);
+    let mut a = [0u8; 32768];
+    page::inner::store(&mut a, 0, &base());
+    page::inner::store(&mut a, 1, &with(with(q, 32, start), 34, end));
+    a
+}
+
+// A second page that is wrong in every way, mended step by step: 11, 17, 18, and 19 for its count, free start, free end and slot 1.
+fn order_cases() {
+    let crc = crc32c::crc32c(&base()[64..]);
+    show_verdict(b"magic", page::verify(MAGIC, &pair(0, 7, 2, 0, 4081, 9, 7)));
+    show_verdict(
+        b"type",
+        page::verify(MAGIC, &pair(MAGIC, 7, 2, 0, 4081, 9, 7)),
+    );
+    show_verdict(
+        b"id",
+        page::verify(MAGIC, &pair(MAGIC, 1, 2, 0, 4081, 9, 7)),
+    );
+    show_verdict(
+        b"checksum",
+        page::verify(MAGIC, &pair(MAGIC, 1, 1, 0, 4081, 9, 7)),
+    );
+    show_verdict(
+        b"count",
+        page::verify(MAGIC, &pair(MAGIC, 1, 1, crc, 4081, 9, 7)),
+    );
+    show_verdict(
+        b"free start",
+        page::verify(MAGIC, &pair(MAGIC, 1, 1, crc, 2, 9, 7)),
+    );
+    show_verdict(
+        b"free end",
+        page::verify(MAGIC, &pair(MAGIC, 1, 1, crc, 2, 8, 7)),
+    );
+    show_verdict(
+        b"slot 1",
+        page::verify(MAGIC, &pair(MAGIC, 1, 1, crc, 2, 8, 16251)),
+    );
+    show_verdict(
+        b"good",
+        page::verify(MAGIC, &pair(MAGIC, 1, 1, crc, 2, 8, 16250)),
+    );
+}
+
+// A free page, a Data page with a free end too low, a page with another id, and one of zeros.
+fn bad_area() -> [u8; 65536] {
+    let mut a = [0u8; 65536];
+    page::inner::store(&mut a, 0, &summed(headed(4, 0, 0, 0, 16320)));
+    page::inner::store(&mut a, 1, &summed(headed(1, 1, 1, 4, 3)));
+    page::inner::store(&mut a, 2, &summed(headed(4, 3, 0, 0, 16320)));
+    a
+}
+
+fn show_from(pages: &[u8], first: u64) {
+    number(b"from ", first);
+    show_verdict(b"", page::verify_from(MAGIC, pages, PageNumber(first)));
+}
+
+// The lower page's number is given; from a page on, that of the next bad one.
+fn from_cases(a: &[u8])
+    requires { ⌜ length (now a) ≡ 65536 ⌝ }
+{
+    show_from(a, 0);
+    show_from(a, 1);
+    show_from(a, 2);
+    show_from(a, 3);
+    show_from(a, 4);
+    show_from(a, 18446744073709551615);
+    show_from(&a[0..65535], 4);
+}
+
 // ---- areas
 
 // A deleted row of 24 bytes, an empty slot, rows of 30 and 40 bytes.
@@ -280,6 +366,8 @@ fn main() {
     header_cases();
     slot_cases();
     pair_cases();
+    order_cases();
+    from_cases(&bad_area());
     let a = area();
     row_cases(&a);
     list_cases(&a);

@@ -46,7 +46,7 @@ rises-ok log o = sound-of (met-end log) (rw (before-end log) (rising neverFull [
 pub size-is : (pages : List ℕ) → sizeWrong pages ≡ false → (length pages ≡ pagesIn pages * pageBytes) × (pagesIn pages ≤ 4096)
 size-is pages h = let r = right-size pages h in (omega (arith, r .0), r .1)
 
--- a page that is not refused by 11, and of type 1
+-- a page that has no fault, and of type 1
 pub sane-sound : {magic floor last : ℕ} {pages : List ℕ} {i : ℕ} → Sane magic floor last pages i → i < pagesIn pages → typeOf (pageAt i pages) ≡ dataType → Sound (pageAt i pages)
 sane-sound {magic} {floor} {last} {pages} {i} s l d =
     let y = page-length pages i l in

@@ -1,4 +1,4 @@
--- Internal: what is known once refusals 1 to 14 have been looked for.
+-- Internal: what is known once every refusal has been looked for.
 use Prim.Native.Nat.{ℕ}
 use mathlib.Core.Path.{_≡_}
 use mathlib.Core.Bool.{Bool}

@@ -1,4 +1,4 @@
-// Refusals 1 to 14, before anything lent is written.
+// Every refusal of recovery, before anything lent is written.
 ghost use mathlib.Core.Path.{_≡_};
 ghost use Rattle.crc32c.specs.Tables.{Tables};
 ghost use Rattle.order.specs.First.{fullOf};
@@ -90,7 +90,7 @@ pub fn judge(
     if w.number != 0 {
         return refused(w);
     }
-    let v = judge_pages(t, magic, floor, w.last, pages, n);
+    let v = judge_pages(t, magic, floor, w.last, pages);
     if v.number != 0 {
         return refusal(v.number, v.place as usize);
     }

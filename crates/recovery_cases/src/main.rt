@@ -20,7 +20,9 @@ use crate::build::used;
 use endian::Lsn;
 use endian::PageNumber as Page;
 use endian::TxnNumber as Txn;
+use endian::put_u16;
 use endian::put_u32;
+use endian::put_u64;
 use endian::u16_at;
 use endian::u64_at;
 use rules::Answer;
@@ -272,15 +274,44 @@ fn each_kind() {
     case(b"a clash", empty(), 0, &log);
 }
 
-fn floors() {
+// A log whose last LSN is 8.
+fn log_to_8() -> [u8; 200] {
     let mut log = [0u8; 200];
-    let mut p = empty();
-    put_page(&mut p, 1, 1, Lsn(9));
     put_header(&mut log);
     bare(&mut log, Lsn(7), Txn(7), BEGIN);
     bare(&mut log, Lsn(8), Txn(7), COMMIT);
+    log
+}
+
+fn floors() {
+    let log = log_to_8();
+    let mut p = empty();
+    put_page(&mut p, 1, 1, Lsn(9));
     case(b"page LSN 9, floor 8", p, 8, &log);
     case(b"page LSN 9, floor 9", p, 9, &log);
+}
+
+// Faults of page 0, each of which comes before the one before it.
+fn worse(mut p: [u8; 32768], log: &[u8]) {
+    put_u16(&mut p, 34, 16321);
+    both(b"and its free end past the body", p, log);
+    put_u32(&mut p, 12, 0);
+    both(b"and its checksum wrong", p, log);
+    put_u64(&mut p, 16, 1);
+    both(b"and its id wrong", p, log);
+    put_u64(&mut p, 0, 0);
+    both(b"and its magic wrong", p, log);
+}
+
+// Page 0 is newer than the log, page 1 torn.
+fn faults() {
+    let log = log_to_8();
+    let mut p = empty();
+    put_page(&mut p, 0, 1, Lsn(9));
+    put_u32(&mut p, 16396, 0);
+    case(b"page 0 not newer, page 1 torn", p, 9, &log);
+    both(b"page 0 newer, page 1 torn", p, &log);
+    worse(p, &log);
 }
 
 // Page 0 has room, page 1 has not.
@@ -332,6 +363,7 @@ fn main() {
     zeros();
     each_kind();
     floors();
+    faults();
     late();
     rows();
 }

@@ -1,4 +1,4 @@
--- The refusals by number (paper 01, Numbers given back): one list, the same as in src/lib.rt and include/lumbraquay.h.
+-- The refusals by number (paper 01, Numbers given back; from 17 on paper 02): one list, the same as in src/lib.rt and include/lumbraquay.h.
 use Prim.Native.Nat.{ℕ}
 
 -- page bytes no multiple of a page's, or too many pages
@@ -41,9 +41,9 @@ clash = 9
 abbrev pub noRecord : ℕ
 noRecord = 10
 
--- page not good
-abbrev pub pageNotGood : ℕ
-pageNotGood = 11
+-- wrong magic or type of a page
+abbrev pub pageMagicOrType : ℕ
+pageMagicOrType = 11
 
 -- page LSN above both floor and last LSN
 abbrev pub pageLsn : ℕ
@@ -64,3 +64,15 @@ noSuchPage = 15
 -- free map shorter than needed
 abbrev pub mapShort : ℕ
 mapShort = 16
+
+-- wrong page id
+abbrev pub pageId : ℕ
+pageId = 17
+
+-- wrong checksum of a page's body
+abbrev pub pageChecksum : ℕ
+pageChecksum = 18
+
+-- broken slot rule of a Data page
+abbrev pub pageSlots : ℕ
+pageSlots = 19

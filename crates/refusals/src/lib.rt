@@ -19,7 +19,7 @@ pub const CLASH: u64 = 9;
 
 pub const NO_RECORD: u64 = 10;
 
-pub const PAGE_NOT_GOOD: u64 = 11;
+pub const PAGE_MAGIC_OR_TYPE: u64 = 11;
 
 pub const PAGE_LSN: u64 = 12;
 
@@ -30,6 +30,12 @@ pub const PAGE_OVERFULL: u64 = 14;
 pub const NO_SUCH_PAGE: u64 = 15;
 
 pub const MAP_SHORT: u64 = 16;
+
+pub const PAGE_ID: u64 = 17;
+
+pub const PAGE_CHECKSUM: u64 = 18;
+
+pub const PAGE_SLOTS: u64 = 19;
 
 // A refusal's number and place; number 0 is none.
 pub struct Verdict {

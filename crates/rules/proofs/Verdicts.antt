@@ -38,7 +38,7 @@ unrefused false v w n h = (refl, h)
 
 -- ---- pages
 
--- page i passes 11 and 12
+-- page i has no fault and passes 12
 pub record Sane (magic floor last : ℕ) (s : List ℕ) (i : ℕ) : Type 0 where
   pub sound : faultOf magic i (pageAt i s) ≡ Sound
   pub lsnKnown : lsnOf (pageAt i s) ≤ max floor last

@@ -21,9 +21,9 @@ use Rattle.rules.specs.Lent.{Lent}
 use Rattle.rules.specs.declared.Answer.{Answer}
 use Rattle.rules.specs.declared.Record.{Record}
 
--- ---- refusals 11 to 14, each the first in its order
+-- ---- refusals of the pages, then 13 and 14, each the first in its order
 
--- page by page, 11 before 12: an LSN above both the floor and the last LSN
+-- page by page, its fault (11, 17, 18, 19) before 12: an LSN above both the floor and the last LSN
 abbrev pub pagesFrom : ℕ → ℕ → ℕ → List ℕ → ℕ → ℕ → Verdict
 pagesFrom magic floor last s n i = firstBad (lateAt (max floor last)) magic s n i
 
@@ -49,7 +49,7 @@ unfoldable pub tightFrom : List Entry → List ℕ → ℕ → ℕ → Verdict
 tightFrom es s zero i = accepted
 tightFrom es s (suc n) i = pick (isTight es s i) (verdict pageOverfull i) (tightFrom es s n (suc i))
 
--- the verdict of recovery: 1, 2, 3; then entry by entry, 4 to 10 in turn; then page by page, 11 before 12; then 13; then 14
+-- the verdict of recovery: 1, 2, 3; then entry by entry, 4 to 10 in turn; then page by page, 11, 17, 18, 19, 12 in turn; then 13; then 14
 unfoldable pub recoverVerdict : (ℕ → Bool) → Lent → Verdict
 recoverVerdict full x =
     pick (sizeWrong (x .pages)) (verdict pageArea 0) accepted

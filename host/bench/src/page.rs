@@ -1,6 +1,8 @@
 //! Verification of 4,096 pages of 80 and of 560 rows, beside the checksum alone on the same bytes, with tuples in packed,
-//! falling and shuffled order; and the listing of all rows through the C interface beside one verification.
+//! falling and shuffled order; the listing of all rows through the C interface beside one verification; and every page
+//! found bad, one after the other.
 use bench::best;
+use library::refusal::PAGE_SLOTS;
 use std::hint::black_box;
 
 extern "C" {
@@ -18,10 +20,11 @@ const PAGES: usize = 4_096;
 const ORDINARY: (usize, u64) = (80, 177);
 const MANY: (usize, u64) = (560, 2);
 
-/// What the times of a verification in falling order, in terms of packed order, and of a listing, in terms of a
-/// verification, should stay under.
+/// What the times of a verification in falling order, in terms of packed order, and of a listing and of finding every
+/// page torn, in terms of a verification, should stay under.
 const FALLING_BOUND: f64 = 1.5;
 const LISTING_BOUND: f64 = 2.0;
+const TORN_BOUND: f64 = 5.0;
 
 /// The checksums of all whole pieces, mixed.
 fn checksums(s: &[u8], piece: usize) -> u32 {
@@ -148,6 +151,50 @@ fn listing() {
     );
 }
 
+/// How many bad pages there are, each looked for behind the one before.
+fn bad_pages(pages: &[u8]) -> u64 {
+    let (mut bad, mut first) = (0, 0);
+    loop {
+        let verdict = library::verify_from(MAGIC, pages, first);
+        match verdict.number {
+            0 => return bad,
+            PAGE_SLOTS => first = verdict.place / PAGE as u64 + 1,
+            _ => first = verdict.place + 1,
+        }
+        bad += 1;
+    }
+}
+
+/// Every page torn, or with its last slot at fault: a call for each, beside one verification of good pages.
+fn every_page_bad() {
+    let mut pages = area(ORDINARY, Order::Packed);
+    let v = best(5, || library::verify(MAGIC, black_box(&pages)).number);
+    for page in pages.chunks_mut(PAGE) {
+        page[HEAD + 4 * ORDINARY.0] ^= 1;
+    }
+    assert_eq!(bad_pages(&pages), PAGES as u64);
+    let t = best(5, || bad_pages(black_box(&pages)));
+    println!(
+        "{PAGES} torn pages found one by one: {:.2} ms, one verification {:.2} ms: {}",
+        t * 1e3,
+        v * 1e3,
+        bound(t / v, TORN_BOUND)
+    );
+    let mut pages = area(MANY, Order::Packed);
+    for page in pages.chunks_mut(PAGE) {
+        page[HEAD + 4 * MANY.0 - 1] = 255;
+        let crc = checksums(&page[HEAD..], BODY);
+        page[12..16].copy_from_slice(&crc.to_le_bytes());
+    }
+    assert_eq!(bad_pages(&pages), PAGES as u64);
+    let s = best(5, || bad_pages(black_box(&pages)));
+    println!(
+        "{PAGES} pages of {} rows with the last slot at fault, one by one: {:.0} ms",
+        MANY.0,
+        s * 1e3
+    );
+}
+
 fn main() {
     println!("verification of {PAGES} pages, best of 5, GB/s (time in terms of the checksum's)");
     println!(
@@ -165,4 +212,5 @@ fn main() {
         );
     }
     listing();
+    every_page_bad();
 }

@@ -58,7 +58,7 @@ const LIMITS: &[Limit] = &[
         14,
     ),
     ("highest slot number", || insert(0, u16::MAX, 24, false), 14),
-    ("a page of one slot too many", page_of_too_many_slots, 11),
+    ("a page of one slot too many", page_of_too_many_slots, 19),
     ("longest tuple", || insert(0, 0, LONGEST_TUPLE, true), 0),
     ("longest tuple in slot 1", || insert(0, 1, 16_312, true), 0),
     (
@@ -94,6 +94,7 @@ const LIMITS: &[Limit] = &[
     ),
     ("the most changes", || most_changes(0), 0),
     ("the most changes, never ended", || most_changes(1), 0),
+    ("last slot of the most pages at fault", last_slot_of_all, 19),
 ];
 
 /// Seed, name and recovery's number of every case.
@@ -375,7 +376,22 @@ fn page_of_too_many_slots() -> Input {
     let count = MOST_SLOTS + 1;
     input.pages[10..12].copy_from_slice(&count.to_le_bytes());
     input.pages[32..34].copy_from_slice(&(4 * count).to_le_bytes());
-    input
+    input.refused_at(10)
+}
+
+/// All slots of the last page are empty but the last one, which has a length and no tuple.
+fn last_slot_of_all() -> Input {
+    let mut input = pages_of(MAX_PAGES, 0);
+    let index = MAX_PAGES - 1;
+    let mut parts = DataPage::plain(MAGIC, index as u64, 0, Slots::new());
+    parts.count = MOST_SLOTS;
+    let mut page = parts.packed();
+    let slot = 64 + 4 * (usize::from(MOST_SLOTS) - 1);
+    page[slot + 2] = 1;
+    let sum = crc32c(&page[64..]);
+    page[12..16].copy_from_slice(&sum.to_le_bytes());
+    input.pages[index * PAGE_BYTES..].copy_from_slice(&page);
+    input.refused_at((index * PAGE_BYTES + slot) as u64)
 }
 
 /// Pages that are each touched in an early and in a late slot, so that each needs a place for all its slots.

@@ -1,11 +1,16 @@
 //! What is read off the pages alone: verification, visible rows and the free map.
 
+use generate::Case;
+use library::refusal::{PAGE_CHECKSUM, PAGE_ID, PAGE_MAGIC_OR_TYPE, PAGE_SLOTS};
 use oracle::PAGE_BYTES;
 
 use crate::check::Subject;
 use crate::lent::Lent;
 use crate::seen::Seen;
 use crate::twin;
+
+/// The bytes of a page before its slots.
+const HEAD_BYTES: usize = 64;
 
 /// What a lent map holds before a call, and what stands on its sides.
 const MAP_MARK: u8 = 0xA5;
@@ -20,6 +25,7 @@ pub(crate) fn compare(subject: &mut Subject, seen: &mut Seen) {
     let library = library::verify(case.magic, &case.pages);
     let oracle = twin::verdict(oracle::verify(case.magic, &case.pages));
     seen.answers("verify", library.number, "", &library, &oracle);
+    bad_pages(subject, seen);
     if subject.light {
         let other_magic = case.magic ^ 1 << subject.rng.below(64);
         let library = library::verify(other_magic, &case.pages);
@@ -36,6 +42,69 @@ pub(crate) fn compare(subject: &mut Subject, seen: &mut Seen) {
     }
     if maps {
         free_maps(subject, seen);
+    }
+}
+
+/// The pages that are not good, each looked for behind the one before; and verification from anywhere.
+fn bad_pages(subject: &mut Subject, seen: &mut Seen) {
+    let case = subject.case;
+    let mut judge = |first: u64| {
+        let library = library::verify_from(case.magic, &case.pages, first);
+        let oracle = twin::verdict(oracle::verify_from(case.magic, &case.pages, first));
+        seen.answers(
+            "verify_from",
+            library.number,
+            format_args!("page {first}"),
+            &library,
+            &oracle,
+        );
+        library
+    };
+    let mut found = Vec::new();
+    let mut first = 0;
+    for _ in 0..if subject.light { 4 } else { 1 } {
+        let verdict = judge(first);
+        first = 1 + match verdict.number {
+            PAGE_MAGIC_OR_TYPE | PAGE_ID | PAGE_CHECKSUM => verdict.place,
+            PAGE_SLOTS => verdict.place / PAGE_BYTES as u64,
+            _ => break,
+        };
+        found.push(verdict);
+    }
+    if subject.light {
+        let last = (case.pages.len() / PAGE_BYTES) as u64;
+        judge(subject.rng.between(0, last + 1));
+        judge(subject.rng.number());
+    }
+    if found.len() > 1 {
+        seen.event("bad page behind a bad page");
+    }
+    for verdict in found.iter().filter(|it| it.number == PAGE_SLOTS) {
+        seen.event(broken_rule(case, verdict.place));
+    }
+}
+
+/// Which rule of slots is broken at a place. A slot is at fault by itself if it is with all other slots emptied.
+fn broken_rule(case: &Case, place: u64) -> &'static str {
+    let (index, at) = (place as usize / PAGE_BYTES, place as usize % PAGE_BYTES);
+    let mut page = case.pages[index * PAGE_BYTES..][..PAGE_BYTES].to_vec();
+    match at {
+        10 => return "19 at an item count",
+        32 => return "19 at a free start",
+        34 => return "19 at a free end",
+        _ => (),
+    }
+    let count = usize::from(u16::from_le_bytes([page[10], page[11]]));
+    let slot: [u8; 4] = page[at..][..4].try_into().expect("four bytes");
+    page[HEAD_BYTES..][..4 * count].fill(0);
+    page[at..][..4].copy_from_slice(&slot);
+    let sum = oracle::crc32c(&page[HEAD_BYTES..]);
+    page[12..16].copy_from_slice(&sum.to_le_bytes());
+    let mut pages = case.pages.clone();
+    pages[index * PAGE_BYTES..][..PAGE_BYTES].copy_from_slice(&page);
+    match oracle::verify_from(case.magic, &pages, index as u64).number {
+        PAGE_SLOTS => "19 at a slot by itself",
+        _ => "19 at a slot that shares a byte",
     }
 }
 

@@ -14,7 +14,7 @@ const PAGE_EDGE: u8 = 0x5A;
 const TABLE_EDGE: u64 = 0x5A5A_5A5A_5A5A_5A5A;
 
 /// What recovery answers.
-const ANSWERED: &[u64] = &[0, 1, 2, 3, 4, 5, 6, 7, 8, 9, 10, 11, 12, 13, 14];
+const ANSWERED: &[u64] = &[0, 1, 2, 3, 4, 5, 6, 7, 8, 9, 10, 11, 12, 13, 14, 17, 18, 19];
 
 /// What a run of recovery is given besides the magic.
 #[derive(Clone, Copy)]

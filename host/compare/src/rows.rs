@@ -11,7 +11,7 @@ use crate::twin;
 const SOME_SLOTS: usize = 2;
 
 /// The refusals that reading a row gives: without a table there is no 10.
-const REFUSED: &[u64] = &[1, 2, 3, 4, 5, 6, 7, 8, 9, 11, 12, 13, 14, 15];
+const REFUSED: &[u64] = &[1, 2, 3, 4, 5, 6, 7, 8, 9, 11, 12, 13, 14, 15, 17, 18, 19];
 
 pub(crate) fn compare(subject: &mut Subject, seen: &mut Seen) {
     for (at, (page, slot)) in asked(subject).into_iter().enumerate() {

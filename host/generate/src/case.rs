@@ -138,7 +138,7 @@ fn with_earlier_run(rng: &mut Rng, case: Case) -> Case {
 /// whole input must be accepted but for the mutation, no page may be overfull.
 pub fn base_for(rng: &mut Rng, mutation: &Mutation) -> Draft {
     let style = match mutation.number {
-        1..=12 => Style::any(rng),
+        1..=12 | 17..=19 => Style::any(rng),
         _ => Style::Calm,
     };
     Draft::honest(rng, style)

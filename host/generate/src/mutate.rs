@@ -13,8 +13,8 @@ pub struct Aim {
 }
 
 /// A change to an input that is accepted. Afterwards the input is refused with
-/// this number (0: still accepted) at the place that `apply` gives: by recovery
-/// for 0 to 14, by the reading of its row for 15, by its free map for 16.
+/// this number (0: still accepted) at the place that `apply` gives: by the
+/// reading of its row for 15, by its free map for 16, by recovery for all others.
 #[derive(Clone, Copy)]
 pub struct Mutation {
     pub name: &'static str,

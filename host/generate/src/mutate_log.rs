@@ -27,7 +27,7 @@ pub const MUTATIONS: &[Mutation] = &[
     Mutation::new("tail that lacks a byte or more", 0, torn_entry),
     Mutation::new("longest length past the end", 0, longest_tail),
     Mutation::new("entry of 43 bytes at the end", 0, shortest_entry),
-    Mutation::new("log too long", 2, log_too_long).seldom(8),
+    Mutation::new("log too long", 2, log_too_long).seldom(2),
     Mutation::new("log of the largest size", 0, log_of_largest_size).seldom(60),
 ];
 

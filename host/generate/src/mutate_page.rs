@@ -11,37 +11,54 @@ use crate::style::{any_page, any_tuple, Style, LEAST_TUPLE};
 pub const MUTATIONS: &[Mutation] = &[
     Mutation::new("page magic", 11, magic),
     Mutation::new("page type", 11, page_type),
-    Mutation::new("page id", 11, page_id),
-    Mutation::new("page checksum", 11, checksum),
-    Mutation::new("bit of a page body", 11, body_bit),
-    Mutation::new("free start", 11, free_start),
-    Mutation::new("item count", 11, item_count),
-    Mutation::new("free end below free start", 11, free_end_low),
-    Mutation::new("free end past the body", 11, free_end_past_body),
-    Mutation::new("free end inside a tuple", 11, free_end_inside_tuple),
-    Mutation::new("slot of length below 24", 11, slot_too_short),
-    Mutation::new("slot below free end", 11, slot_below_free_end),
-    Mutation::new("slot past the body", 11, slot_past_body),
-    Mutation::new("deleted byte of a tuple", 11, deleted_byte),
-    Mutation::new("tuples sharing a byte", 11, shared_byte),
-    Mutation::new("tuple inside another", 11, nested_tuples),
+    Mutation::new("page id", 17, page_id),
+    Mutation::new("page checksum", 18, checksum),
+    Mutation::new("bit of a page body", 18, body_bit),
+    Mutation::new("item count over 4,080", 19, item_count_high),
+    Mutation::new("item count beside free start", 19, item_count),
+    Mutation::new("free start", 19, free_start),
+    Mutation::new("free end below free start", 19, free_end_low),
+    Mutation::new("free end past the body", 19, free_end_past_body),
+    Mutation::new("free end inside a tuple", 19, free_end_inside_tuple),
+    Mutation::new("slot of length below 24", 19, slot_too_short),
+    Mutation::new("slot below free end", 19, slot_below_free_end),
+    Mutation::new("slot past the body", 19, slot_past_body),
+    Mutation::new("last slot of a full directory", 19, last_slot),
+    Mutation::new("deleted byte of a tuple", 19, deleted_byte),
+    Mutation::new("tuples sharing a byte", 19, shared_byte),
+    Mutation::new("tuple inside another", 19, nested_tuples),
+    Mutation::new("page of another file, misplaced", 11, magic_and_id),
+    Mutation::new("misplaced page, torn", 17, id_and_checksum),
+    Mutation::new("torn page with a broken slot rule", 18, checksum_and_slots),
+    Mutation::new("two pages bad in different ways", 19, two_bad_pages),
     Mutation::new("tuples that just touch", 0, touching_tuples),
     Mutation::new("tuple from free end to the body's end", 0, whole_body),
     Mutation::new("page with 4,080 empty slots", 0, most_slots),
     Mutation::new("page with no slots", 0, no_slots),
     Mutation::new("page LSN too high", 12, lsn_too_high),
+    Mutation::new("page LSN too high on a torn page", 18, lsn_too_high_torn),
     Mutation::new(
-        "page LSN too high on a page not good",
-        11,
-        lsn_too_high_not_good,
+        "page LSN too high beside a broken slot rule",
+        19,
+        lsn_too_high_slots,
     ),
     Mutation::new(
-        "page LSN too high before a page not good",
+        "page LSN too high before a bad page",
         12,
         lsn_too_high_before,
     ),
     Mutation::new("page LSN at the bound", 0, lsn_at_bound),
 ];
+
+/// Where a field or slot at an offset of a page stands in the page area.
+fn in_area(index: usize, at: usize) -> u64 {
+    (index * PAGE_BYTES + at) as u64
+}
+
+/// Where a slot of a page stands in the page area.
+fn slot_in_area(index: usize, slot: usize) -> u64 {
+    in_area(index, PAGE_HEADER_BYTES + 4 * slot)
+}
 
 /// Adds a good Data page with these slots and an item count that is larger than
 /// the lowest by `more`; gives its index.
@@ -78,7 +95,7 @@ fn some_page(rng: &mut Rng, draft: &mut Draft) -> usize {
 }
 
 /// Puts a page in the place of one of the input's, or after the last.
-fn put_page(rng: &mut Rng, draft: &mut Draft, build: impl Fn(&mut Rng, u64) -> Vec<u8>) -> u64 {
+fn put_page(rng: &mut Rng, draft: &mut Draft, build: impl Fn(&mut Rng, u64) -> Vec<u8>) -> usize {
     let index = rng.size(0, draft.page_count());
     let page = build(rng, index as u64);
     if index == draft.page_count() {
@@ -86,7 +103,7 @@ fn put_page(rng: &mut Rng, draft: &mut Draft, build: impl Fn(&mut Rng, u64) -> V
     } else {
         draft.page_mut(index).copy_from_slice(&page);
     }
-    index as u64
+    index
 }
 
 /// A Data page with a free end and slots as they are given, good or not, and a
@@ -117,8 +134,8 @@ fn raw_page(
     page
 }
 
-/// Puts a Data page in that is given by its free end and slots.
-fn put_raw(rng: &mut Rng, draft: &mut Draft, free_end: usize, slots: &[(usize, usize)]) -> u64 {
+/// Puts a Data page in that is given by its free end and slots; gives its index.
+fn put_raw(rng: &mut Rng, draft: &mut Draft, free_end: usize, slots: &[(usize, usize)]) -> usize {
     let magic = draft.magic;
     put_page(rng, draft, |rng, id| {
         raw_page(rng, magic, id, free_end, slots)
@@ -167,14 +184,17 @@ fn body_bit(rng: &mut Rng, draft: &mut Draft) -> u64 {
     index as u64
 }
 
+/// The slots that are filled on a sample page, of four.
+const SAMPLE_SLOTS: [usize; 3] = [0, 1, 3];
+
 /// A good Data page with some tuples and an empty slot put in; gives its index.
 fn sample_page(rng: &mut Rng, draft: &mut Draft) -> usize {
     let magic = draft.magic;
-    let index = put_page(rng, draft, |rng, id| {
+    put_page(rng, draft, |rng, id| {
         let mut slots = Slots::new();
-        for slot in [0, 1, 3] {
+        for slot in SAMPLE_SLOTS {
             let length = rng.size(LEAST_TUPLE, 70);
-            slots.insert(slot, any_tuple(rng, length));
+            slots.insert(slot as u16, any_tuple(rng, length));
         }
         let parts = DataPage {
             magic,
@@ -186,62 +206,71 @@ fn sample_page(rng: &mut Rng, draft: &mut Draft) -> usize {
             slots,
         };
         data_page(rng, &parts)
-    });
-    index as usize
+    })
+}
+
+/// A number of a sample page's header replaced; gives where it stands.
+fn header_number(rng: &mut Rng, draft: &mut Draft, at: usize, numbers: &[u16]) -> usize {
+    let index = sample_page(rng, draft);
+    let number = *rng.pick(numbers);
+    put_u16(draft.page_mut(index), at, number);
+    index
+}
+
+fn item_count_high(rng: &mut Rng, draft: &mut Draft) -> u64 {
+    // With 16,388 slots, 4 x item count is 16 again in 16 bits.
+    let index = header_number(rng, draft, 10, &[4_081, 4_081, 16_388, 65_535]);
+    in_area(index, 10)
+}
+
+/// The count is none that a page cannot have: the free start is at fault.
+fn item_count(rng: &mut Rng, draft: &mut Draft) -> u64 {
+    let index = header_number(rng, draft, 10, &[0, 3, 5, 4_080]);
+    in_area(index, 32)
 }
 
 fn free_start(rng: &mut Rng, draft: &mut Draft) -> u64 {
-    let index = sample_page(rng, draft);
-    let start = *rng.pick(&[0, 12, 15, 17, 20, 64]);
-    put_u16(draft.page_mut(index), 32, start);
-    index as u64
-}
-
-fn item_count(rng: &mut Rng, draft: &mut Draft) -> u64 {
-    let index = sample_page(rng, draft);
-    // With 16,388 slots, 4 x item count is 16 again in 16 bits.
-    let count = *rng.pick(&[0, 3, 5, 16_388, 65_535]);
-    put_u16(draft.page_mut(index), 10, count);
-    index as u64
+    let index = header_number(rng, draft, 32, &[0, 12, 15, 17, 20, 64]);
+    in_area(index, 32)
 }
 
 fn free_end_low(rng: &mut Rng, draft: &mut Draft) -> u64 {
-    let index = sample_page(rng, draft);
-    let end = *rng.pick(&[15, 15, 12, 0]);
-    put_u16(draft.page_mut(index), 34, end);
-    index as u64
+    let index = header_number(rng, draft, 34, &[15, 15, 12, 0]);
+    in_area(index, 34)
 }
 
 fn free_end_past_body(rng: &mut Rng, draft: &mut Draft) -> u64 {
     let end = *rng.pick(&[16_321, 16_321, 16_384, 65_535]);
     let slots = vec![(0, 0); rng.index(5)];
-    put_raw(rng, draft, end, &slots)
+    in_area(put_raw(rng, draft, end, &slots), 34)
 }
 
+/// The slot whose tuple starts lowest is then below free end, and no other.
 fn free_end_inside_tuple(rng: &mut Rng, draft: &mut Draft) -> u64 {
     let index = sample_page(rng, draft);
     let page = draft.page_mut(index);
-    let offsets = [0, 1, 3].map(|slot| get_u16(page, PAGE_HEADER_BYTES + 4 * slot));
-    let lowest = *offsets.iter().min().expect("three offsets");
-    let more = rng.between(1, 24) as u16;
-    put_u16(page, 34, lowest + more);
-    index as u64
+    let offset = |slot: &usize| get_u16(page, PAGE_HEADER_BYTES + 4 * slot);
+    let slot = SAMPLE_SLOTS.into_iter().min_by_key(offset).expect("a slot");
+    let end = offset(&slot) + rng.between(1, 24) as u16;
+    put_u16(page, 34, end);
+    slot_in_area(index, slot)
 }
 
 fn slot_too_short(rng: &mut Rng, draft: &mut Draft) -> u64 {
     let index = sample_page(rng, draft);
     let length = *rng.pick(&[23, 23, 16, 1, 0]);
-    let slot = *rng.pick(&[0, 1, 3]);
+    let slot = *rng.pick(&SAMPLE_SLOTS);
     let page = draft.page_mut(index);
     put_u16(page, PAGE_HEADER_BYTES + 4 * slot + 2, length);
     seal_page(page);
-    index as u64
+    slot_in_area(index, slot)
 }
 
 fn slot_below_free_end(rng: &mut Rng, draft: &mut Draft) -> u64 {
     let free_end = rng.size(200, 16_000);
     let low = *rng.pick(&[free_end - 1, free_end - 1, free_end - 24, 0]);
-    put_raw(rng, draft, free_end, &[(0, 0), (low, LEAST_TUPLE)])
+    let index = put_raw(rng, draft, free_end, &[(0, 0), (low, LEAST_TUPLE)]);
+    slot_in_area(index, 1)
 }
 
 fn slot_past_body(rng: &mut Rng, draft: &mut Draft) -> u64 {
@@ -251,18 +280,27 @@ fn slot_past_body(rng: &mut Rng, draft: &mut Draft) -> u64 {
         1 => BODY_BYTES,
         _ => BODY_BYTES.saturating_sub(length) + 1,
     };
-    put_raw(rng, draft, 8, &[(offset.max(8), length), (0, 0)])
+    let index = put_raw(rng, draft, 8, &[(offset.max(8), length), (0, 0)]);
+    slot_in_area(index, 0)
+}
+
+/// The last slot that a body has room for: no byte is left for its tuple.
+fn last_slot(rng: &mut Rng, draft: &mut Draft) -> u64 {
+    let mut slots = [(0, 0); 4_080];
+    slots[4_079] = (BODY_BYTES - LEAST_TUPLE, LEAST_TUPLE);
+    let index = put_raw(rng, draft, BODY_BYTES, &slots);
+    slot_in_area(index, 4_079)
 }
 
 fn deleted_byte(rng: &mut Rng, draft: &mut Draft) -> u64 {
     let index = sample_page(rng, draft);
     let deleted = *rng.pick(&[2, 2, 3, 128, 255]);
-    let slot = *rng.pick(&[0, 1, 3]);
+    let slot = *rng.pick(&SAMPLE_SLOTS);
     let page = draft.page_mut(index);
     let offset = get_u16(page, PAGE_HEADER_BYTES + 4 * slot) as usize;
     page[PAGE_HEADER_BYTES + offset + 16] = deleted;
     seal_page(page);
-    index as u64
+    slot_in_area(index, slot)
 }
 
 /// Two tuples, one behind the other, and empty slots around them.
@@ -279,10 +317,17 @@ fn two_tuples(rng: &mut Rng, shared: usize) -> (usize, Vec<(usize, usize)>) {
     (free_end, slots)
 }
 
+/// The later of two filled slots, which shares a byte with the earlier one.
+fn later_slot(slots: &[(usize, usize)]) -> usize {
+    let filled = slots.iter().rposition(|&slot| slot != (0, 0));
+    filled.expect("a filled slot")
+}
+
 fn shared_byte(rng: &mut Rng, draft: &mut Draft) -> u64 {
     let shared = *rng.pick(&[1, 1, 1, 7, 24]);
     let (free_end, slots) = two_tuples(rng, shared);
-    put_raw(rng, draft, free_end, &slots)
+    let index = put_raw(rng, draft, free_end, &slots);
+    slot_in_area(index, later_slot(&slots))
 }
 
 fn nested_tuples(rng: &mut Rng, draft: &mut Draft) -> u64 {
@@ -295,7 +340,48 @@ fn nested_tuples(rng: &mut Rng, draft: &mut Draft) -> u64 {
     ]);
     let mut slots = [outer, inner, (0, 0)];
     rng.shuffle(&mut slots);
-    put_raw(rng, draft, 12, &slots)
+    let index = put_raw(rng, draft, 12, &slots);
+    slot_in_area(index, later_slot(&slots))
+}
+
+// Two faults of one page, of which the one that is judged first is given; and
+// two bad pages, of which the lower is.
+
+fn magic_and_id(rng: &mut Rng, draft: &mut Draft) -> u64 {
+    let index = page_id(rng, draft) as usize;
+    draft.page_mut(index)[rng.index(8)] ^= 1 << rng.below(8);
+    index as u64
+}
+
+fn id_and_checksum(rng: &mut Rng, draft: &mut Draft) -> u64 {
+    let index = page_id(rng, draft) as usize;
+    draft.page_mut(index)[12 + rng.index(4)] ^= 1 << rng.below(8);
+    index as u64
+}
+
+fn checksum_and_slots(rng: &mut Rng, draft: &mut Draft) -> u64 {
+    let place = match rng.below(3) {
+        0 => free_start(rng, draft),
+        1 => free_end_past_body(rng, draft),
+        _ => shared_byte(rng, draft),
+    };
+    let index = place as usize / PAGE_BYTES;
+    draft.page_mut(index)[12 + rng.index(4)] ^= 1 << rng.below(8);
+    index as u64
+}
+
+fn two_bad_pages(rng: &mut Rng, draft: &mut Draft) -> u64 {
+    let lower = match rng.below(2) {
+        0 => free_end_low(rng, draft),
+        _ => shared_byte(rng, draft),
+    };
+    let higher = add_data_page(rng, draft, &[(0, LEAST_TUPLE)], 0);
+    match rng.below(3) {
+        0 => draft.page_mut(higher)[0] ^= 1,
+        1 => put_u64(draft.page_mut(higher), 16, 0),
+        _ => draft.page_mut(higher)[100] ^= 1,
+    }
+    lower
 }
 
 fn touching_tuples(rng: &mut Rng, draft: &mut Draft) -> u64 {
@@ -343,10 +429,17 @@ fn lsn_too_high(rng: &mut Rng, draft: &mut Draft) -> u64 {
     index as u64
 }
 
-fn lsn_too_high_not_good(rng: &mut Rng, draft: &mut Draft) -> u64 {
+fn lsn_too_high_torn(rng: &mut Rng, draft: &mut Draft) -> u64 {
     let index = lsn_too_high(rng, draft);
     draft.page_mut(index as usize)[100] ^= 1;
     index
+}
+
+fn lsn_too_high_slots(rng: &mut Rng, draft: &mut Draft) -> u64 {
+    let last = lower_lsns(draft);
+    let place = slot_too_short(rng, draft);
+    put_u64(draft.page_mut(place as usize / PAGE_BYTES), 24, last + 1);
+    place
 }
 
 fn lsn_too_high_before(rng: &mut Rng, draft: &mut Draft) -> u64 {
@@ -354,7 +447,11 @@ fn lsn_too_high_before(rng: &mut Rng, draft: &mut Draft) -> u64 {
     let high = add_data_page(rng, draft, &[(0, LEAST_TUPLE)], 0);
     put_u64(draft.page_mut(high), 24, last + 1);
     let spoiled = add_data_page(rng, draft, &[(0, LEAST_TUPLE)], 0);
-    draft.page_mut(spoiled)[100] ^= 1;
+    match rng.below(3) {
+        0 => draft.page_mut(spoiled)[0] ^= 1,
+        1 => put_u64(draft.page_mut(spoiled), 16, 1 << 40),
+        _ => draft.page_mut(spoiled)[100] ^= 1,
+    }
     high as u64
 }
 

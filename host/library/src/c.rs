@@ -13,6 +13,15 @@ extern "C" {
 
     pub fn lq_verify(magic: u64, pages: *const u8, len: usize, out: *mut u64, out_len: usize);
 
+    pub fn lq_verify_from(
+        magic: u64,
+        pages: *const u8,
+        len: usize,
+        first: u64,
+        out: *mut u64,
+        out_len: usize,
+    );
+
     pub fn lq_recover(
         magic: u64,
         floor: u64,

@@ -183,9 +183,16 @@ pub fn log_backward(log: &[u8], place: u64) -> Step {
     })
 }
 
-/// Whether every page is good. Refuses 1 and 11.
+/// Whether every page is good. Refuses 1, then what is wrong with the first page that is not: 11, 17, 18 or 19.
 pub fn verify(magic: u64, pages: &[u8]) -> Verdict {
     filled(|out, out_len| unsafe { c::lq_verify(magic, pages.as_ptr(), pages.len(), out, out_len) })
+}
+
+/// The same of the pages from an index on, with the numbers and places of all of them.
+pub fn verify_from(magic: u64, pages: &[u8], first: u64) -> Verdict {
+    filled(|out, out_len| unsafe {
+        c::lq_verify_from(magic, pages.as_ptr(), pages.len(), first, out, out_len)
+    })
 }
 
 /// Mends the pages by the log and fills the table: four numbers a record, read by `records`. Refused, pages and table
@@ -232,15 +239,15 @@ pub fn read_row(magic: u64, floor: u64, pages: &[u8], log: &[u8], page: u64, slo
     })
 }
 
-/// The first visible row at or after a slot of a page, or none. Refuses 1 and 11.
+/// The first visible row at or after a slot of a page, or none. Refuses as `verify` does.
 pub fn next_visible(magic: u64, pages: &[u8], page: u64, slot: u16) -> Visible {
     filled(|out, out_len| unsafe {
         c::lq_next_visible(magic, pages.as_ptr(), pages.len(), page, slot, out, out_len)
     })
 }
 
-/// Fills the numbers with visible rows from a slot of a page on, four numbers a row, read by `listed`. Refuses 1 and 11;
-/// the numbers then stay.
+/// Fills the numbers with visible rows from a slot of a page on, four numbers a row, read by `listed`. Refuses as
+/// `verify` does; the numbers then stay.
 pub fn list_visible(magic: u64, pages: &[u8], page: u64, slot: u16, rows: &mut [u64]) -> Listing {
     filled(|out, out_len| unsafe {
         c::lq_list_visible(
@@ -263,7 +270,8 @@ pub fn listed(rows: &[u64]) -> impl Iterator<Item = Listed> + '_ {
         .map(|row| Listed::from([row[0], row[1], row[2], row[3]]))
 }
 
-/// Writes one bit a page, 1 for a free one. Refuses 1, 11 and 16; the map then keeps what it holds.
+/// Writes one bit a page, 1 for a free one. Refuses as `verify` does, then 16; the map then keeps what it
+/// holds.
 pub fn free_map(magic: u64, pages: &[u8], map: &mut [u8]) -> FreeMap {
     filled(|out, out_len| unsafe {
         c::lq_free_map(

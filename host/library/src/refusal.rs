@@ -1,4 +1,4 @@
-//! The refusals of paper 01: numbers, names, what their places count and when they are given. The names are those of
+//! The refusals of papers 01 and 02: numbers, names, what their places count and when they are given. The names are those of
 //! include/lumbraquay.h without LQ_.
 
 /// What the place of a refusal counts.
@@ -10,6 +10,8 @@ pub enum Place {
     LogOffset,
     /// Pages from 0.
     PageIndex,
+    /// Bytes from the pages' start, to a field of a page's header or to a slot.
+    PageOffset,
 }
 
 #[derive(Clone, Copy, Debug)]
@@ -49,12 +51,15 @@ refusals! {
     8 TRANSACTION_ORDER LogOffset "a log entry breaks the order of its transaction: a second Begin, or something of a transaction that is not open";
     9 CLASH LogOffset "a change to a slot that another transaction, still open, has changed";
     10 NO_RECORD LogOffset "a Begin for which the lent table has no record left";
-    11 PAGE_NOT_GOOD PageIndex "a page is not good: its magic, type, id, checksum or a slot is wrong";
+    11 PAGE_MAGIC_OR_TYPE PageIndex "a page has another magic, or a type other than 0 to 6";
     12 PAGE_LSN PageIndex "a page's LSN is above the floor and above the last LSN of the log";
     13 NO_DATA_PAGE LogOffset "a change to a page that is beyond the lent ones or not of type 1";
     14 PAGE_OVERFULL PageIndex "the rows that belong on a page do not fit it";
     15 NO_SUCH_PAGE Nothing "the row is asked for on a page that is not there";
     16 MAP_SHORT Nothing "the lent free map is too short";
+    17 PAGE_ID PageIndex "a page has another id than its index";
+    18 PAGE_CHECKSUM PageIndex "a page's checksum is not that of its body";
+    19 PAGE_SLOTS PageOffset "a data page breaks a rule of slots: its item count, free start, free end or a slot is wrong";
 }
 
 /// The refusal of a number, if there is one.

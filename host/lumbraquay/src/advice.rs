@@ -5,6 +5,7 @@ use library::{Verdict, PAGE_BYTES};
 
 use crate::args::Parsed;
 use crate::failure::Failure;
+use crate::fault;
 use crate::found::{after_damage, found, is_page_file, is_swapped, After};
 use crate::input::{head_fields, Log, Read};
 use crate::json::Json;
@@ -37,13 +38,16 @@ pub fn refusal_fields(verdict: Verdict, read: Read) -> Vec<(&'static str, Json)>
         Place::Nothing => "nothing",
         Place::LogOffset => "offset in the log",
         Place::PageIndex => "page index",
+        Place::PageOffset => "offset in the pages",
     };
-    vec![
-        ("place_is", place_is.into()),
+    let mut fields = vec![("place_is", place_is.into())];
+    fields.extend(fault::fields(verdict));
+    fields.extend([
         ("meaning", meaning(verdict.number).into()),
         ("found", found(verdict, read).map_or(Json::Null, Json::Text)),
         ("advice", Json::Text(advice(verdict, read))),
-    ]
+    ]);
+    fields
 }
 
 pub fn text(verdict: Verdict, read: Read) -> String {
@@ -59,6 +63,12 @@ pub fn text(verdict: Verdict, read: Read) -> String {
             place.saturating_mul(PAGE_BYTES as u64)
         ),
         (Place::PageIndex, None, _) => format!(" at page {place}"),
+        (Place::PageOffset, Some(pages), _) => format!(
+            " at offset {place} of {}, {}",
+            pages.path.display(),
+            fault::part(place)
+        ),
+        (Place::PageOffset, None, _) => format!(" at {}", fault::part(place)),
     };
     let mut text = format!("refused: {number} {name}{place}\n");
     text += &format!("  meaning:    {}\n", meaning(number));
@@ -129,12 +139,15 @@ fn general(number: u64) -> &'static str {
         refusal::TRANSACTION_ORDER => "see that the log is whole from its first entry on and is one log, not two joined",
         refusal::CLASH => "two open transactions changed one row, so its locks failed; which of them holds is to be decided by hand",
         refusal::NO_RECORD => "give a larger number to --records, or leave it out",
-        refusal::PAGE_NOT_GOOD => "put the page back from a backup or the double-write file; if its magic is what differs, give the right one to --magic",
+        refusal::PAGE_MAGIC_OR_TYPE => "if the magic is what differs, see that this is the page file, or give the right one to --magic; else put the page back from a backup or the double-write file",
         refusal::PAGE_LSN => "use the log that reaches this page's LSN; only if all up to that LSN is known to be flushed, give it to --floor",
         refusal::NO_DATA_PAGE => "see that the pages and the log belong together and that the page file was not cut short",
         refusal::PAGE_OVERFULL => "the log puts more on this page than it can hold: see that the pages and the log belong together",
         refusal::NO_SUCH_PAGE => "ask for one of the pages that are there",
         refusal::MAP_SHORT => "lend a longer map",
+        refusal::PAGE_ID => "another page stands here: see that the file was copied whole and in order, or put the page back from a backup or the double-write file; `verify --all` lists every bad page",
+        refusal::PAGE_CHECKSUM => "the page is torn or damaged: put it back from a backup or the double-write file; `verify --all` lists every bad page",
+        refusal::PAGE_SLOTS => "the body's checksum is right, so the page was written like this or its header, which has no checksum, is damaged: put it back from a backup or the double-write file; `verify --all` lists every bad page",
         _ => "use a version of this command that fits the library",
     }
 }

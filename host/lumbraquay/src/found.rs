@@ -4,6 +4,7 @@ use std::collections::{BTreeMap, BTreeSet};
 
 use library::{refusal, Step, Verdict, PAGE_BYTES, STEP_ENTRY};
 
+use crate::fault;
 use crate::input::{Log, Pages, Read};
 use crate::show;
 use crate::walk;
@@ -26,7 +27,10 @@ pub fn found(verdict: Verdict, read: Read) -> Option<String> {
         refusal::LSN_ORDER => lsn_before(read.log?, place),
         refusal::TRANSACTION_ORDER => transaction(read.log?, place),
         refusal::CLASH => clash(read.log?, place),
-        refusal::PAGE_NOT_GOOD => page(read.pages?, place),
+        refusal::PAGE_MAGIC_OR_TYPE
+        | refusal::PAGE_ID
+        | refusal::PAGE_CHECKSUM
+        | refusal::PAGE_SLOTS => fault::words(read.pages?, verdict),
         refusal::PAGE_LSN => lsns(read, place),
         refusal::NO_DATA_PAGE => no_data_page(read, place),
         refusal::PAGE_OVERFULL => needed(read.pages?, read.log?, place),
@@ -38,7 +42,7 @@ pub fn found(verdict: Verdict, read: Read) -> Option<String> {
 /// Whether the page file is a log by its first bytes, or the log a page file by its length.
 pub fn is_swapped(verdict: Verdict, read: Read) -> bool {
     let is_log = |bytes: &[u8]| bytes.starts_with(b"WALN");
-    let of_pages = matches!(verdict.number, refusal::PAGE_AREA | refusal::PAGE_NOT_GOOD);
+    let of_pages = verdict.number == refusal::PAGE_AREA || fault::bad_page(verdict).is_some();
     of_pages && read.pages.is_some_and(|pages| is_log(&pages.bytes))
 }
 
@@ -73,22 +77,6 @@ fn number(page: &[u8], at: usize) -> u64 {
 
 fn lsn_of(page: &[u8]) -> u64 {
     number(page, 24)
-}
-
-fn page(pages: &Pages, index: u64) -> Option<String> {
-    let page = pages.page(index)?;
-    Some(format!(
-        "magic {:#x} (looked for {:#x}, {}), type {} {}, id {}, LSN {}, checksum {:08x} (of the body {:08x})",
-        number(page, 0),
-        pages.magic,
-        pages.magic_from(),
-        page[8],
-        show::page_type(page[8]),
-        number(page, 16),
-        lsn_of(page),
-        number(page, 12) as u32,
-        library::crc32c(&page[HEAD_BYTES..]),
-    ))
 }
 
 /// The LSNs that a page's one was compared with, and the highest that another log would have to reach.

@@ -6,6 +6,7 @@ mod changes;
 mod commands;
 mod done;
 mod failure;
+mod fault;
 mod files;
 mod found;
 mod fresh;

@@ -1,7 +1,7 @@
 //! Pages that were mended by a log: what the library answered, and the bytes that it left.
 
 use library::refusal::{self, Place};
-use library::{Answer, Record, LOG_HEAD_BYTES, RECORD_NUMBERS, SHORTEST_ENTRY_BYTES};
+use library::{Answer, Record, LOG_HEAD_BYTES, PAGE_BYTES, RECORD_NUMBERS, SHORTEST_ENTRY_BYTES};
 
 use crate::args::Parsed;
 use crate::changes::{changes, Change};
@@ -56,7 +56,11 @@ impl Mended {
     /// The page that a refusal speaks of.
     pub fn faulty_page(&self) -> Option<u64> {
         let refusal = refusal::refusal(self.answer.number)?;
-        (refusal.place == Place::PageIndex).then_some(self.answer.place)
+        match refusal.place {
+            Place::PageIndex => Some(self.answer.place),
+            Place::PageOffset => Some(self.answer.place / PAGE_BYTES as u64),
+            Place::Nothing | Place::LogOffset => None,
+        }
     }
 
     /// The slots that hold something else afterwards.

@@ -6,8 +6,8 @@ use std::collections::{BTreeMap, HashMap};
 use crate::log::check_header;
 use crate::log_rules::{read_log, Change, Image, ReadLog, COMMITTED};
 use crate::page::{
-    check_page_bytes, is_good, item_count, page_at, page_lsn, page_type, tuple_in_slot, BODY_BYTES,
-    DATA,
+    check_page, check_page_bytes, item_count, page_at, page_lsn, page_type, tuple_in_slot,
+    BODY_BYTES, DATA,
 };
 use crate::{Refusal, PAGE_BYTES};
 
@@ -25,8 +25,8 @@ pub(crate) struct Examined {
     pub touched: BTreeMap<u64, Touched>,
 }
 
-/// Order: 1, 2, 3; then entry by entry, 4 to 10 in turn; then page by page, 11
-/// before 12; then 13, earliest entry; then 14, lowest page.
+/// Order: 1, 2, 3; then entry by entry, 4 to 10 in turn; then page by page, 11,
+/// 17, 18, 19 and 12; then 13, earliest entry; then 14, lowest page.
 pub(crate) fn examine(
     magic: u64,
     floor: u64,
@@ -44,15 +44,13 @@ pub(crate) fn examine(
     Ok(Examined { log: read, touched })
 }
 
-/// Page by page: 11 for a page that is not good, 12 for a page LSN above both
+/// Page by page: what is wrong with the page, then 12 for a page LSN above both
 /// the floor and the last LSN.
 fn check_pages(magic: u64, floor: u64, pages: &[u8], last_lsn: u64) -> Result<(), Refusal> {
-    for (index, page) in pages.chunks_exact(PAGE_BYTES).enumerate() {
-        if !is_good(magic, index as u64, page) {
-            return Err(Refusal::new(11, index as u64));
-        }
+    for (index, page) in (0u64..).zip(pages.chunks_exact(PAGE_BYTES)) {
+        check_page(magic, index, page)?;
         if page_lsn(page) > floor && page_lsn(page) > last_lsn {
-            return Err(Refusal::new(12, index as u64));
+            return Err(Refusal::new(12, index));
         }
     }
     Ok(())

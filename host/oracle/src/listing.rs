@@ -2,7 +2,7 @@
 //! the map of free pages.
 
 use crate::page::{
-    check_page_bytes, check_pages_good, item_count, page_type, tuple_in_slot, DATA, FREE,
+    check_page_bytes, check_pages_from, item_count, page_type, tuple_in_slot, DATA, FREE,
 };
 use crate::{Refusal, PAGE_BYTES};
 
@@ -43,16 +43,22 @@ pub struct FreeMap {
     pub free: u64,
 }
 
-/// Refusals 1 and 11, in this order.
-fn check(magic: u64, pages: &[u8]) -> Result<(), Refusal> {
+/// Refusal 1, then the first page from an index on that is not good.
+fn check(magic: u64, pages: &[u8], first: u64) -> Result<(), Refusal> {
     check_page_bytes(pages)?;
-    check_pages_good(magic, pages)
+    check_pages_from(magic, pages, first)
 }
 
-/// Whether the pages can be lent and are all good: 1, else 11 with the index of
-/// the first page that is not good, else 0.
+/// Whether the pages can be lent and are all good: 1, else what the first page
+/// that is not good is refused by, else 0.
 pub fn verify(magic: u64, pages: &[u8]) -> Verdict {
-    match check(magic, pages) {
+    verify_from(magic, pages, 0)
+}
+
+/// The same of the pages from an index on. Number, place and ids are those of
+/// the whole page area.
+pub fn verify_from(magic: u64, pages: &[u8], first: u64) -> Verdict {
+    match check(magic, pages, first) {
         Ok(()) => Verdict::default(),
         Err(Refusal { number, place }) => Verdict { number, place },
     }
@@ -67,7 +73,7 @@ fn is_visible(tuple: &[u8]) -> bool {
 /// byte 0, in that order, with its page, slot, tuple length and the tuple's
 /// offset in the pages, or none.
 pub fn next_visible(magic: u64, pages: &[u8], page: u64, slot: u16) -> Visible {
-    if let Err(Refusal { number, place }) = check(magic, pages) {
+    if let Err(Refusal { number, place }) = check(magic, pages, 0) {
         return Visible {
             number,
             place,
@@ -104,7 +110,7 @@ pub fn next_visible(magic: u64, pages: &[u8], page: u64, slot: u16) -> Visible {
 /// Visible rows from a (page, slot) on, four numbers each: page, slot, tuple length and the tuple's offset in the pages,
 /// as many as fit. Says how many, and the place of the next one, or the count of pages and 0 where there is none.
 pub fn list_visible(magic: u64, pages: &[u8], page: u64, slot: u16, rows: &mut [u64]) -> Listing {
-    if let Err(Refusal { number, place }) = check(magic, pages) {
+    if let Err(Refusal { number, place }) = check(magic, pages, 0) {
         return Listing {
             number,
             place,
@@ -145,14 +151,14 @@ pub fn list_visible(magic: u64, pages: &[u8], page: u64, slot: u16, rows: &mut [
 
 /// Bit i, lowest bit first, is 1 exactly if page i has type 4; whole needed
 /// bytes, spare bits 0, later bytes kept; the count of free pages is given
-/// back. Refuses 1, 11, 16 in this order.
+/// back. Refuses as verification does, then 16.
 pub fn free_map(magic: u64, pages: &[u8], map: &mut [u8]) -> FreeMap {
     let refused = |number, place| FreeMap {
         number,
         place,
         free: 0,
     };
-    if let Err(Refusal { number, place }) = check(magic, pages) {
+    if let Err(Refusal { number, place }) = check(magic, pages, 0) {
         return refused(number, place);
     }
     let page_count = pages.len() / PAGE_BYTES;

@@ -24,11 +24,11 @@ pub(crate) fn check_page_bytes(pages: &[u8]) -> Result<(), Refusal> {
     Ok(())
 }
 
-/// Refusal 11: the first page that is not good.
-pub(crate) fn check_pages_good(magic: u64, pages: &[u8]) -> Result<(), Refusal> {
-    for (index, page) in pages.chunks_exact(PAGE_BYTES).enumerate() {
-        if !is_good(magic, index as u64, page) {
-            return Err(Refusal::new(11, index as u64));
+/// The first page from an index on that is not good, by its own refusal.
+pub(crate) fn check_pages_from(magic: u64, pages: &[u8], first: u64) -> Result<(), Refusal> {
+    for (index, page) in (0u64..).zip(pages.chunks_exact(PAGE_BYTES)) {
+        if index >= first {
+            check_page(magic, index, page)?;
         }
     }
     Ok(())
@@ -69,42 +69,60 @@ pub(crate) fn tuple_in_slot(page: &[u8], slot: usize) -> Option<(usize, usize)> 
 }
 
 /// A page is good if magic fits, type is 0 to 6, id equals its index and the
-/// CRC of the body is right. A Data page must also have a good body.
-pub(crate) fn is_good(magic: u64, index: u64, page: &[u8]) -> bool {
-    let good = u64_at(page, 0) == magic
-        && page_type(page) <= 6
-        && u64_at(page, 16) == index
-        && crc32c(&page[PAGE_HEADER_BYTES..]) == u32_at(page, 12);
-    good && (page_type(page) != DATA || has_good_slots(page))
+/// CRC of the body is right. A Data page must also keep the slot rules. 11 is a
+/// wrong magic or type, 17 a wrong id, 18 a wrong checksum, in this order, each
+/// with the page's index; 19 a broken slot rule, with the byte offset in the
+/// page area of what breaks it.
+pub(crate) fn check_page(magic: u64, index: u64, page: &[u8]) -> Result<(), Refusal> {
+    if u64_at(page, 0) != magic || page_type(page) > 6 {
+        return Err(Refusal::new(11, index));
+    }
+    if u64_at(page, 16) != index {
+        return Err(Refusal::new(17, index));
+    }
+    if u32_at(page, 12) != crc32c(&page[PAGE_HEADER_BYTES..]) {
+        return Err(Refusal::new(18, index));
+    }
+    match broken_slot_rule(page) {
+        Some(at) => Err(Refusal::new(19, index * PAGE_BYTES as u64 + at as u64)),
+        None => Ok(()),
+    }
 }
 
-/// Free start = 4 x item count, free start <= free end <= 16,320, and each slot
-/// empty or a tuple with length >= 24, offset >= free end, offset + length <=
-/// 16,320, deleted byte 0 or 1, and no two tuples sharing a byte.
-fn has_good_slots(page: &[u8]) -> bool {
+/// Where in a Data page the first thing stands that breaks a slot rule: before
+/// the slots the item count, if it is over 4,080, then the free start, if it is
+/// not 4 times that, then the free end, if it is out of bounds; then the first
+/// slot that is at fault by itself or shares a byte with an earlier one.
+fn broken_slot_rule(page: &[u8]) -> Option<usize> {
+    if page_type(page) != DATA {
+        return None;
+    }
+    let count = item_count(page);
     let free_start = u16_at(page, 32) as usize;
     let free_end = u16_at(page, 34) as usize;
-    if free_start != 4 * item_count(page) || free_start > free_end || free_end > BODY_BYTES {
-        return false;
+    if count > 4_080 {
+        return Some(10);
+    }
+    if free_start != 4 * count {
+        return Some(32);
+    }
+    if free_end < free_start || free_end > BODY_BYTES {
+        return Some(34);
     }
     let mut taken = vec![false; BODY_BYTES];
-    for slot in 0..item_count(page) {
+    for slot in 0..count {
         let (offset, length) = slot_numbers(page, slot);
         if (offset, length) == (0, 0) {
             continue;
         }
-        if length < ROW_HEADER_BYTES || offset < free_end || offset + length > BODY_BYTES {
-            return false;
+        let at_fault_itself = length < ROW_HEADER_BYTES
+            || offset < free_end
+            || offset + length > BODY_BYTES
+            || page[PAGE_HEADER_BYTES + offset + 16] > 1;
+        if at_fault_itself || taken[offset..offset + length].contains(&true) {
+            return Some(PAGE_HEADER_BYTES + 4 * slot);
         }
-        if page[PAGE_HEADER_BYTES + offset + 16] > 1 {
-            return false;
-        }
-        for byte in &mut taken[offset..offset + length] {
-            if *byte {
-                return false;
-            }
-            *byte = true;
-        }
+        taken[offset..offset + length].fill(true);
     }
-    true
+    None
 }

@@ -22,7 +22,7 @@ fill-requires : tie.Need-fill-requires
 fill-requires c κs =
     let i = c .before .before in
     let a = i .before .before .before .before .before .args in
-    let z = accepted-size (a .magic) (a .pages .now) (sym (ap number-of (i .before .before .verify .ensures)) ∙ i .if1 .left) in
+    let z = accepted-size (a .magic) (a .pages .now) 0 (sym (ap number-of (i .before .before .verify .ensures)) ∙ i .if1 .left) in
     (c .before .if2 .left, omega arith)
 
 -- the bytes that are counted are there
@@ -35,7 +35,7 @@ ones-requires : tie.Need-ones-requires
 ones-requires c κs =
     let i = c .before .before .before .before .before .before in
     let a = i .before .before .before .before .before .args in
-    let z = accepted-size (a .magic) (a .pages .now) (sym (ap number-of (i .before .before .verify .ensures)) ∙ i .if1 .left) in
+    let z = accepted-size (a .magic) (a .pages .now) 0 (sym (ap number-of (i .before .before .verify .ensures)) ∙ i .if1 .left) in
     rw (length-take-le _ _ (there (c .before))) (omega arith)
 
 same-length : tie.Need-same-length

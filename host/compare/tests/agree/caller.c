@@ -58,6 +58,8 @@ int main(int count, char **words) {
     CALL(lq_log_backward, LQ_LOG_STEP_NUMBERS, NULL, 0, 32)
     CALL(lq_verify, LQ_VERIFY_NUMBERS, 1, NULL, 0)
     must(whole[LQ_VERIFY_NUMBER] == LQ_DONE, "lq_verify", "no pages are all good", MOST);
+    CALL(lq_verify_from, LQ_VERIFY_NUMBERS, 1, NULL, 0, 0)
+    must(whole[LQ_VERIFY_NUMBER] == LQ_DONE, "lq_verify_from", "no pages are all good", MOST);
     CALL(lq_recover, LQ_RECOVER_NUMBERS, 1, 0, NULL, 0, NULL, 0, NULL, 0)
     must(whole[LQ_RECOVER_NUMBER] == LQ_LOG_HEADER, "lq_recover", "no log is no header", MOST);
     CALL(lq_read_row, LQ_READ_ROW_NUMBERS, 1, 0, NULL, 0, NULL, 0, 0, 0)
@@ -78,6 +80,12 @@ int main(int count, char **words) {
     must(whole[LQ_LOG_STEP_OFFSET] == 32, "lq_log_backward", "the first entry is not found again", MOST);
     CALL(lq_verify, LQ_VERIFY_NUMBERS, magic, kept, pages_len)
     must(whole[LQ_VERIFY_NUMBER] == LQ_DONE, "lq_verify", "the pages are good", MOST);
+    kept[LQ_PAGE_BYTES + 100] ^= 1;
+    CALL(lq_verify_from, LQ_VERIFY_NUMBERS, magic, kept, pages_len, 1)
+    must(whole[LQ_VERIFY_NUMBER] == LQ_PAGE_CHECKSUM && whole[LQ_VERIFY_PLACE] == 1, "lq_verify_from", "page 1 is torn", MOST);
+    CALL(lq_verify_from, LQ_VERIFY_NUMBERS, magic, kept, pages_len, 2)
+    must(whole[LQ_VERIFY_NUMBER] == LQ_DONE, "lq_verify_from", "the pages behind it are good", MOST);
+    kept[LQ_PAGE_BYTES + 100] ^= 1;
     CALL(lq_read_row, LQ_READ_ROW_NUMBERS, magic, 0, kept, pages_len, log_bytes, log_len, 1, 0)
     must(whole[LQ_READ_ROW_FILLED] == 1, "lq_read_row", "page 1 has a row in slot 0", MOST);
     CALL(lq_next_visible, LQ_NEXT_VISIBLE_NUMBERS, magic, kept, pages_len, 0, 0)
@@ -101,7 +109,7 @@ int main(int count, char **words) {
          log_len, NULL, 0)
     must(whole[LQ_RECOVER_NUMBER] == LQ_NO_RECORD, "lq_recover", "no table has no record left", MOST);
 
-    for (uint64_t number = 0; number <= LQ_MAP_SHORT + 1; number++)
+    for (uint64_t number = 0; number <= LQ_PAGE_SLOTS + 1; number++)
         printf("%d %s: %s\n", (int)number, lq_refusal_name(number), lq_refusal_meaning(number));
     return wrong;
 }

@@ -14,10 +14,11 @@ use crate::{assert_no_differences, tell};
 const SEEDS: Range<u64> = 0..20_000;
 
 /// The calls that refuse by the paper's numbers.
-const REFUSING: [&str; 7] = [
+const REFUSING: [&str; 8] = [
     "recover",
     "read_row",
     "verify",
+    "verify_from",
     "next_visible",
     "list_visible",
     "free_map",
@@ -108,6 +109,30 @@ fn honest_histories_end_as_their_ledgers_say() {
             ("repeated recovery", 5_000),
             ("mixture of old and mended pages", 500),
             ("earlier run refused", 100),
+        ],
+    );
+}
+
+/// Every call that is lent pages tells their faults apart, each at its place; a broken slot rule by its field or slot.
+#[test]
+fn page_faults_are_told_apart() {
+    let seen = seen();
+    assert_no_differences(seen);
+    for entry in REFUSING.iter().filter(|it| **it != "log_open") {
+        for number in [11, 17, 18, 19] {
+            let times = seen.times(entry, number);
+            assert!(times > 50, "{entry} gave {number} {times} times");
+        }
+    }
+    assert_often(
+        seen,
+        &[
+            ("19 at an item count", 10),
+            ("19 at a free start", 30),
+            ("19 at a free end", 30),
+            ("19 at a slot by itself", 100),
+            ("19 at a slot that shares a byte", 50),
+            ("bad page behind a bad page", 50),
         ],
     );
 }

@@ -32,6 +32,7 @@ fn call_everything() {
     assert_eq!(library::log_forward(&log, 32).lsn, 1);
     assert_eq!(library::log_backward(&log, log.len() as u64).entry_type, 2);
     assert_eq!(library::verify(MAGIC, &pages).number, 0);
+    assert_eq!(library::verify_from(MAGIC, &pages, 299).number, 0);
     assert_eq!(library::next_visible(MAGIC, &pages, 299, 80).found, 0);
     assert_eq!(
         library::list_visible(MAGIC, &pages, 299, 80, &mut [0; 4]).count,

@@ -53,7 +53,7 @@ fn every_mutation_is_answered_as_it_aims() {
         }
     }
     println!("reached by single mutations: {reached:?}");
-    for number in 0..=16 {
+    for number in 0..=19 {
         let least = if number == 2 { 2 } else { 60 };
         assert!(reached.get(&number) >= Some(&least), "refusal {number}");
     }
@@ -75,7 +75,7 @@ fn every_seed_is_answered_as_it_aims() {
     }
     println!("reached by seeds: {reached:?}");
     println!("kinds: {kinds:?}");
-    for number in 0..=16 {
+    for number in 0..=19 {
         let least = if number == 2 { 1 } else { 15 };
         assert!(reached.get(&number) >= Some(&least), "refusal {number}");
     }
@@ -95,11 +95,14 @@ fn calls_over_pages_alone_agree() {
         match verdict.number {
             1 => assert_eq!((answer.number, answer.place), (1, 0)),
             // Recovery may find a fault of the log or a page LSN before it.
-            11 => assert!(matches!(answer.number, 2..=12)),
-            _ => assert!(!matches!(answer.number, 1 | 11)),
+            11 | 17..=19 => assert!(matches!(answer.number, 2..=12 | 17..=19)),
+            _ => assert!(!matches!(answer.number, 1 | 11 | 17..=19)),
         }
-        if answer.number == 11 {
-            assert_eq!((verdict.number, verdict.place), (11, answer.place));
+        if matches!(answer.number, 11 | 17..=19) {
+            assert_eq!(
+                (verdict.number, verdict.place),
+                (answer.number, answer.place)
+            );
         }
         let visible = next_visible(case.magic, &case.pages, case.page, case.slot);
         assert_eq!(
@@ -117,8 +120,7 @@ fn calls_over_pages_alone_agree() {
             assert!(free.free == 0 && map.iter().all(|&byte| byte == 0xA5));
         }
     }
-    assert!(
-        seen[&0] > 700 && seen[&1] > 10 && seen[&11] > 80,
-        "{seen:?}"
-    );
+    for (number, least) in [(0, 700), (1, 10), (11, 40), (17, 10), (18, 20), (19, 60)] {
+        assert!(seen.get(&number) >= Some(&least), "{number}: {seen:?}");
+    }
 }

@@ -1,10 +1,12 @@
-//! `verify`: whether every page is good.
+//! `verify`: whether every page is good, and which are not.
 
-use library::PAGE_BYTES;
+use library::refusal::refusal;
+use library::{Verdict, PAGE_BYTES};
 
-use crate::advice::unless_refused;
-use crate::args::{Command, Parsed, JSON, MAGIC, QUIET};
+use crate::advice::{refusal_fields, text, unless_refused};
+use crate::args::{Choice, Command, Parsed, JSON, MAGIC, QUIET};
 use crate::failure::Failure;
+use crate::fault;
 use crate::input::{head_fields, Pages, Read};
 use crate::json::Json;
 use crate::output::Output;
@@ -14,14 +16,24 @@ pub const COMMAND: Command = Command {
     name: "verify",
     about: "says whether every page is good",
     takes: &[super::PAGES],
-    options: &[MAGIC, QUIET, JSON],
-    more: "A page is good if its magic, type, id and checksum are right and, on a data page, every slot is.",
+    options: &[
+        Choice::flag("--all", "list every bad page, not the first alone"),
+        MAGIC,
+        QUIET,
+        JSON,
+    ],
+    more: "A page is good if its magic, type, id and checksum are right and, on a data page, every slot is. The first that is not\n\
+           is refused: by 11 for its magic or type, 17 for its id, 18 for its checksum, 19 for a slot or what the header says of\n\
+           slots.",
     run,
 };
 
 fn run(parsed: &Parsed, output: &mut Output) -> Result<(), Failure> {
     let pages = Pages::read(parsed)?;
     let verdict = library::verify(pages.magic, &pages.bytes);
+    if parsed.flag("--all") && fault::bad_page(verdict).is_some() {
+        return list(parsed, output, &pages, verdict);
+    }
     unless_refused(parsed, output, verdict, Read::pages(&pages))?;
 
     let types = types(&pages);
@@ -30,6 +42,9 @@ fn run(parsed: &Parsed, output: &mut Output) -> Result<(), Failure> {
         fields.extend(pages.fields());
         let types = types.iter().map(|&(name, count)| (name, count.into()));
         fields.push(("types", Json::Object(types.collect())));
+        if parsed.flag("--all") {
+            fields.push(("bad_pages", Json::List(Vec::new())));
+        }
         return output.line(Json::Object(fields));
     }
     output.line(pages.line())?;
@@ -38,6 +53,69 @@ fn run(parsed: &Parsed, output: &mut Output) -> Result<(), Failure> {
         .map(|(name, count)| format!("{count} {name}"))
         .collect();
     output.line(format_args!("every page is good: {}", types.join(", ")))
+}
+
+/// What each bad page is refused by: each is looked for behind the one before.
+fn bad_pages(pages: &Pages) -> impl Iterator<Item = (u64, Verdict)> + '_ {
+    let mut first = 0;
+    std::iter::from_fn(move || {
+        let verdict = library::verify_from(pages.magic, &pages.bytes, first);
+        let page = fault::bad_page(verdict)?;
+        first = page + 1;
+        Some((page, verdict))
+    })
+}
+
+/// Lists every bad page; then the first of them is refused.
+fn list(
+    parsed: &Parsed,
+    output: &mut Output,
+    pages: &Pages,
+    verdict: Verdict,
+) -> Result<(), Failure> {
+    let read = Read::pages(pages);
+    if parsed.flag("--json") {
+        let bad = bad_pages(pages).map(|(_, verdict)| bad_fields(pages, verdict));
+        let mut fields = head_fields(parsed, "refused", verdict);
+        fields.extend(refusal_fields(verdict, read));
+        fields.extend(pages.fields());
+        fields.push(("bad_pages", Json::List(bad.collect())));
+        output.line(Json::Object(fields))?;
+        return Err(Failure::Refused(String::new()));
+    }
+    output.line(pages.line())?;
+    output.line("  page  refused by             found")?;
+    let mut bad = 0;
+    for (page, verdict) in bad_pages(pages) {
+        bad += 1;
+        output.line(format_args!(
+            "{page:>6}  {} {:<18}  {}",
+            verdict.number,
+            name(verdict),
+            fault::words(pages, verdict).unwrap_or_default()
+        ))?;
+    }
+    output.line(format_args!(
+        "{bad} of {} not good",
+        show::count(pages.count() as u64, "page is", "pages are")
+    ))?;
+    Err(Failure::Refused(text(verdict, read)))
+}
+
+fn name(verdict: Verdict) -> &'static str {
+    refusal(verdict.number).map_or("unknown", |refusal| refusal.name)
+}
+
+fn bad_fields(pages: &Pages, verdict: Verdict) -> Json {
+    let mut fields = vec![
+        ("number", verdict.number.into()),
+        ("name", name(verdict).into()),
+        ("place", verdict.place.into()),
+    ];
+    fields.extend(fault::fields(verdict));
+    let found = fault::words(pages, verdict);
+    fields.push(("found", found.map_or(Json::Null, Json::Text)));
+    Json::Object(fields)
 }
 
 /// How many pages there are of each type that comes up.

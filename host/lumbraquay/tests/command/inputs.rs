@@ -144,7 +144,7 @@ fn files_over_the_limits() {
         &sandbox,
         &OF_PAGES[..1],
         "most",
-        &["refused: 11 PAGE_NOT_GOOD at page 0 of most"],
+        &["refused: 18 PAGE_CHECKSUM at page 0 of most"],
     );
 
     zeros(&sandbox, "log", 16_777_217);

@@ -58,7 +58,7 @@ fn pages_are_listed() {
     sandbox.write("bad", &pages);
     sandbox
         .say("pages bad")
-        .refuses(&["refused: 11 PAGE_NOT_GOOD at page 2"])
+        .refuses(&["refused: 18 PAGE_CHECKSUM at page 2"])
         .says(&["88e3e0cc is wrong, the body has "]);
     let told = sandbox.say("pages bad --json").ends(3).json();
     assert_eq!((told.text("result"), told.number("place")), ("refused", 2));
@@ -418,7 +418,7 @@ fn quiet_runs_say_nothing() {
     }
     sandbox
         .say("verify outage.pages --magic 7 --quiet")
-        .refuses(&["refused: 11 PAGE_NOT_GOOD"]);
+        .refuses(&["refused: 11 PAGE_MAGIC_OR_TYPE"]);
     sandbox
         .say("recover outage.pages outage.log --out new --quiet")
         .fails(&["it exists already"]);

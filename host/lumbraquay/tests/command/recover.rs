@@ -313,8 +313,8 @@ fn floor_and_magic_are_options() {
     sandbox
         .say(&format!("{words} --floor 9 --magic 1"))
         .refuses(&[
-            "refused: 11 PAGE_NOT_GOOD at page 0",
-            "magic 0x313053454e415243 (looked for 0x1, as given)",
+            "refused: 11 PAGE_MAGIC_OR_TYPE at page 0",
+            "magic 0x313053454e415243, which should be 0x1 (as given)",
             "give the right one to --magic",
         ]);
 }

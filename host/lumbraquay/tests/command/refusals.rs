@@ -5,6 +5,7 @@ use generate::{mutated_by, mutations, Case, Mutation, Rng};
 use generate::{BEGIN, CHECKPOINT, COMMIT, FREE};
 use library::refusal::{refusal, Place};
 
+use crate::json::Value;
 use crate::sandbox::{Done, Sandbox};
 
 /// A case of a mutation that the command can be given: its pages are not empty, and no file is of the largest size.
@@ -26,6 +27,17 @@ fn options(case: &Case) -> String {
     format!("--magic {:#x} --floor {}", case.magic, case.floor)
 }
 
+/// The page and the field or slot that an offset in the pages is that of.
+fn part(place: u64) -> String {
+    let part = match place % 16_384 {
+        10 => "item count".to_string(),
+        32 => "free start".to_string(),
+        34 => "free end".to_string(),
+        at => format!("slot {}", (at - 64) / 4),
+    };
+    format!("page {} {part}", place / 16_384)
+}
+
 /// The text says all that a refusal has to.
 fn assert_told(done: Done, number: u64, place: u64) {
     let known = refusal(number).expect("a refusal");
@@ -37,6 +49,7 @@ fn assert_told(done: Done, number: u64, place: u64) {
             "{head} at page {place} of pages, offset {}\n",
             place * 16_384
         ),
+        Place::PageOffset => format!("{head} at offset {place} of pages, {}\n", part(place)),
     };
     let done = done.refuses(&[
         &format!("\n  meaning:    {}\n", known.when),
@@ -66,6 +79,7 @@ fn assert_told_as_json(done: Done, number: u64, place: u64) {
         Place::Nothing => "nothing",
         Place::LogOffset => "offset in the log",
         Place::PageIndex => "page index",
+        Place::PageOffset => "offset in the pages",
     };
     assert_eq!(object.text("place_is"), place_is);
     if known.place != Place::Nothing {
@@ -76,10 +90,10 @@ fn assert_told_as_json(done: Done, number: u64, place: u64) {
 /// Every known way to spoil an input, or to bring it to the edge of a rule, for `recover`.
 #[test]
 fn recover_answers_every_mutation() {
-    let mut told = [0; 15];
+    let mut told = [0; 20];
     for mutation in mutations()
         .iter()
-        .filter(|it| it.seldom == 1 && it.number <= 14)
+        .filter(|it| it.seldom == 1 && !matches!(it.number, 15 | 16))
     {
         let case = case_of(mutation);
         let aim = case.aim.expect("an aim");
@@ -104,16 +118,17 @@ fn recover_answers_every_mutation() {
         assert!(sandbox.contents() == before, "{}", mutation.name);
         told[aim.number as usize] += 1;
     }
-    // 2 takes a file of the largest size: see inputs.rs.
+    // 2 takes a file of the largest size: see inputs.rs. 15 and 16 are not recovery's.
     for (number, times) in told.into_iter().enumerate() {
-        assert!(times > 0 || number == 2, "{number} was not reached");
+        let other = matches!(number, 2 | 15 | 16);
+        assert!(times > 0 || other, "{number} was not reached");
     }
 }
 
 /// Reading a row refuses alike, but for 10, and 15 is its own.
 #[test]
 fn row_refuses_too() {
-    for number in [3, 4, 5, 6, 7, 8, 9, 11, 12, 13, 14, 15] {
+    for number in [3, 4, 5, 6, 7, 8, 9, 11, 12, 13, 14, 15, 17, 18, 19] {
         let all = mutations();
         let mutation = all.iter().find(|it| it.number == number && it.seldom == 1);
         let case = case_of(mutation.expect("a mutation"));
@@ -134,12 +149,12 @@ fn row_refuses_too() {
     }
 }
 
-/// What looks at pages alone refuses 11, and 1.
+/// What looks at pages alone refuses 1, and what is wrong with a page.
 #[test]
 fn listings_refuse_too() {
     for mutation in mutations()
         .iter()
-        .filter(|it| matches!(it.number, 1 | 11) && it.seldom == 1)
+        .filter(|it| matches!(it.number, 1 | 11 | 17..=19) && it.seldom == 1)
     {
         let case = case_of(mutation);
         let aim = case.aim.expect("an aim");
@@ -182,9 +197,9 @@ fn what_is_found_is_told() {
     pages[2 * 16_384 + 5_000] ^= 1;
     sandbox.write("outage.pages", &pages);
     sandbox.say("verify outage.pages").refuses(&[
-        "refused: 11 PAGE_NOT_GOOD at page 2 of outage.pages, offset 32768",
-        "magic 0x313053454e415243 (looked for 0x313053454e415243, read off page 0), type 1 data, id 2, LSN 107, checksum ",
-        "put the page back from a backup",
+        "refused: 18 PAGE_CHECKSUM at page 2 of outage.pages, offset 32768",
+        "found:      checksum 88e3e0cc, which should be 5aab696a by the body; type 1 data, id 2, LSN 107\n",
+        "put it back from a backup",
     ]);
     sandbox.write("short", &pages[..40_000]);
     sandbox
@@ -215,6 +230,196 @@ fn what_is_found_is_told() {
     sandbox
         .say("log text")
         .refuses(&["48 bytes, which start with '746869732069'"]);
+}
+
+/// What a refusal of page 1 of the outage says, with something changed on it; a changed body is given its checksum.
+fn bad_page(change: impl Fn(&mut [u8]), seal: bool, texts: &[&str]) -> Value {
+    let sandbox = Sandbox::with_outage();
+    let mut pages = sandbox.read("outage.pages");
+    let page = &mut pages[16_384..2 * 16_384];
+    change(page);
+    if seal {
+        let sum = library::crc32c(&page[64..]);
+        page[12..16].copy_from_slice(&sum.to_le_bytes());
+    }
+    sandbox.write("outage.pages", &pages);
+    sandbox.say("verify outage.pages").refuses(texts);
+    let words = "recover outage.pages outage.log --dry-run";
+    sandbox.say(words).refuses(texts);
+    let object = sandbox.say(&format!("{words} --json")).ends(3).json();
+    assert_eq!(object.number("page"), 1);
+    object
+}
+
+fn put(page: &mut [u8], at: usize, number: u16) {
+    page[at..at + 2].copy_from_slice(&number.to_le_bytes());
+}
+
+/// Page 1 has tuples of 63, 61 and 61 bytes in slots 0, 1 and 2.
+#[test]
+fn what_is_wrong_with_a_page_is_told() {
+    let at_index =
+        |name: &str| format!("refused: {name} at page 1 of outage.pages, offset 16384\n");
+    bad_page(
+        |page| page[0] ^= 1,
+        false,
+        &[&at_index("11 PAGE_MAGIC_OR_TYPE"), "found:      magic 0x313053454e415242, which should be 0x313053454e415243 (read off page 0); type 1 data, id 1, LSN 103\n"],
+    );
+    bad_page(
+        |page| page[8] = 9,
+        false,
+        &[
+            &at_index("11 PAGE_MAGIC_OR_TYPE"),
+            "found:      type 9 unknown, which should be 0 to 6; id 1, LSN 103\n",
+        ],
+    );
+    bad_page(
+        |page| page[16] = 2,
+        false,
+        &[
+            &at_index("17 PAGE_ID"),
+            "found:      id 2, which should be 1; type 1 data, LSN 103, its checksum is right\n",
+        ],
+    );
+    bad_page(
+        |page| (page[16], page[99]) = (2, 1),
+        false,
+        &[&at_index("17 PAGE_ID"), "its checksum is wrong\n"],
+    );
+    bad_page(
+        |page| page[12] ^= 1,
+        false,
+        &[&at_index("18 PAGE_CHECKSUM"), "found:      checksum d7ffc162, which should be d7ffc163 by the body; type 1 data, id 1, LSN 103\n"],
+    );
+}
+
+#[test]
+fn broken_slot_rules_are_told() {
+    let broken = |at: usize, number: u16, name: &str, found: &str| {
+        let place = 16_384
+            + match name {
+                "item count" => 10,
+                "free start" => 32,
+                "free end" => 34,
+                slot => 64 + 4 * slot.strip_prefix("slot ").unwrap().parse::<u64>().unwrap(),
+            };
+        let head =
+            format!("refused: 19 PAGE_SLOTS at offset {place} of outage.pages, page 1 {name}\n");
+        let found = format!("found:      {found}\n");
+        let object = bad_page(|page| put(page, at, number), at >= 64, &[&head, &found]);
+        assert!(name.starts_with(object.text("field")));
+        assert_eq!(object.number("place"), place);
+        if let Some(slot) = name.strip_prefix("slot ") {
+            assert_eq!(object.number("slot").to_string(), slot);
+        }
+    };
+    broken(
+        10,
+        4_081,
+        "item count",
+        "item count 4081, which should be at most 4080",
+    );
+    broken(
+        32,
+        13,
+        "free start",
+        "free start 13, which should be 12, 4 times the item count 3",
+    );
+    broken(
+        10,
+        4,
+        "free start",
+        "free start 12, which should be 16, 4 times the item count 4",
+    );
+    for end in [11, 16_321] {
+        let found = format!("free end {end}, which should be from 12, the free start, to 16320");
+        broken(34, end, "free end", &found);
+    }
+    broken(
+        70,
+        23,
+        "slot 1",
+        "slot 1 has offset 16196 and length 23; a length should be 24 or more, or both should be 0",
+    );
+    broken(
+        34,
+        16_136,
+        "slot 2",
+        "slot 2 has offset 16135 and length 61; its offset should be 16136, the free end, or more",
+    );
+    broken(66, 64, "slot 0", "slot 0 has offset 16257 and length 64; its tuple should end at 16320 or before, and ends at 16321");
+    broken(64 + 16_196 + 16, 2, "slot 1", "slot 1 has offset 16196 and length 61; its tuple's deleted byte is 2, which should be 0 or 1");
+    broken(70, 62, "slot 1", "slot 1 has offset 16196 and length 62; it shares bytes 16257 to 16257 of the body with another: slot 0 has offset 16257 and length 63");
+}
+
+#[test]
+fn every_bad_page_is_listed() {
+    let sandbox = Sandbox::with_outage();
+    let mut pages = sandbox.read("outage.pages");
+    pages[16_384 + 5_000] ^= 1;
+    put(&mut pages, 2 * 16_384 + 32, 13);
+    pages[3 * 16_384 + 16] = 1;
+    sandbox.write("bad", &pages);
+    let done = sandbox
+        .say("verify bad --all")
+        .refuses(&["refused: 18 PAGE_CHECKSUM at page 1 of bad, offset 16384"]);
+    assert_eq!(
+        done.out,
+        "bad: 4 pages, magic 0x313053454e415243 (read off page 0)\n  \
+         page  refused by             found\n     \
+         1  18 PAGE_CHECKSUM       checksum d7ffc163, which should be 05b748c5 by the body; type 1 data, id 1, LSN 103\n     \
+         2  19 PAGE_SLOTS          free start 13, which should be 12, 4 times the item count 3\n     \
+         3  17 PAGE_ID             id 1, which should be 3; type 4 free, LSN 12, its checksum is right\n\
+         3 of 4 pages are not good\n"
+    );
+    sandbox
+        .say("verify bad --all --quiet")
+        .refuses(&["refused: 18"]);
+    sandbox
+        .say("verify outage.pages --all")
+        .done()
+        .says(&["every page is good: 1 meta, 2 data, 1 free\n"]);
+    let good = sandbox
+        .say("verify outage.pages --all --json")
+        .done()
+        .json();
+    assert!(good.list("bad_pages").is_empty());
+    sandbox.write("short", &pages[..40_000]);
+    sandbox
+        .say("verify short --all")
+        .refuses(&["refused: 1 PAGE_AREA"]);
+
+    // Random pages: the list is the second program's.
+    let mut listed = 0;
+    for mutation in mutations()
+        .iter()
+        .filter(|it| matches!(it.number, 11 | 17..=19))
+    {
+        let case = case_of(mutation);
+        let sandbox = sandbox_of(&case);
+        let words = format!("verify pages --all --json --magic {:#x}", case.magic);
+        let object = sandbox.say(&words).ends(3).json();
+        let mut first = 0;
+        for bad in object.list("bad_pages") {
+            let expected = oracle::verify_from(case.magic, &case.pages, first);
+            let told = (bad.number("number"), bad.number("place"));
+            assert_eq!(told, (expected.number, expected.place), "{}", mutation.name);
+            assert!(!bad.text("found").is_empty());
+            first = bad.number("page") + 1;
+            listed += 1;
+        }
+        assert_eq!(
+            oracle::verify_from(case.magic, &case.pages, first).number,
+            0
+        );
+    }
+    assert!(
+        listed
+            > mutations()
+                .iter()
+                .filter(|it| matches!(it.number, 11 | 17..=19))
+                .count()
+    );
 }
 
 const MAGIC: u64 = u64::from_le_bytes(*b"CRANES01");
@@ -363,7 +568,7 @@ fn swapped_files_are_recognised() {
     sandbox.write("long.log", &log);
     sandbox
         .say("verify long.log")
-        .refuses(&["refused: 11 PAGE_NOT_GOOD", "starts with WALN"]);
+        .refuses(&["refused: 18 PAGE_CHECKSUM", "starts with WALN"]);
     for words in ["log outage.pages", "recover outage.pages outage.pages"] {
         sandbox.say(words).refuses(&[
             "refused: 3 LOG_HEADER",

@@ -94,14 +94,14 @@ fn shows_a_refusal() {
     sandbox.write("outage.pages", &pages);
     sandbox
         .say("report outage.pages outage.log")
-        .refuses(&["refused: 11 PAGE_NOT_GOOD at page 2"])
+        .refuses(&["refused: 18 PAGE_CHECKSUM at page 2"])
         .says(&["report: written to report.html\n"]);
     let html = read(&sandbox, "report.html");
     assert_sound(&html);
     for text in [
         "cannot be recovered by this log",
-        "refused: 11 PAGE_NOT_GOOD at page 2",
-        "<dt>what to do</dt><dd>put the page back",
+        "refused: 18 PAGE_CHECKSUM at page 2",
+        "<dt>what to do</dt><dd>the page is torn or damaged: put it back",
         "<g class=\"data faulty\"><title>page 2, ",
         "<span class=\"mark unended\"></span>refused",
     ] {

@@ -21,6 +21,9 @@ fn refusals_come_in_their_order() {
 
     let mut pages = [data_page(0, 99, &[]), data_page(1, 0, &[]), vec![0]].concat();
     pages[PAGE_BYTES] ^= 1;
+    pages[1] ^= 1;
+    put64(&mut pages, 16, 9);
+    put16(&mut pages, 34, 16_321);
     pages[70] = 1;
     let mut bytes = log.bytes.clone();
     bytes[damaged as usize + 5] ^= 1;
@@ -48,8 +51,16 @@ fn refusals_come_in_their_order() {
     assert_eq!(judge(&pages, &bytes, 0), (10, 32));
     assert_eq!(judge(&pages, &bytes, 1), (4, damaged));
     bytes[damaged as usize + 5] ^= 1;
+    // Page 0 is a torn page, in the wrong place and not of this file; page 1 stands behind it.
     assert_eq!(judge(&pages, &bytes, 1), (11, 0));
+    pages[1] ^= 1;
+    assert_eq!(judge(&pages, &bytes, 1), (17, 0));
+    put64(&mut pages, 16, 0);
+    assert_eq!(judge(&pages, &bytes, 1), (18, 0));
     seal(&mut pages[..PAGE_BYTES]);
+    assert_eq!(judge(&pages, &bytes, 1), (19, 34));
+    put16(&mut pages, 34, 16_320);
+    // Its LSN comes before anything of page 1.
     assert_eq!(judge(&pages, &bytes, 1), (12, 0));
     put64(&mut pages, 24, 50);
     assert_eq!(judge(&pages, &bytes, 1), (11, 1));

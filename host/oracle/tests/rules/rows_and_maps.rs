@@ -154,7 +154,7 @@ fn visible_rows_refuse() {
         ..Visible::default()
     };
     pages[PAGE_BYTES + 100] = 1;
-    assert_eq!(next_visible(MAGIC, &pages, 0, 0), refusal(11, 1));
+    assert_eq!(next_visible(MAGIC, &pages, 0, 0), refusal(18, 1));
     pages.pop();
     assert_eq!(next_visible(MAGIC, &pages, 0, 0), refusal(1, 0));
 }
