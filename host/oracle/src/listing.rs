@@ -1,5 +1,5 @@
-//! What is done over magic and pages alone: verifying, listing visible rows and
-//! the map of free pages.
+//! What is done over magic and pages alone: verifying, listing visible and
+//! cancelled rows and the map of free pages.
 
 use crate::page::{
     check_page_bytes, check_pages_from, item_count, page_type, tuple_in_slot, DATA, FREE,
@@ -64,14 +64,16 @@ pub fn verify_from(magic: u64, pages: &[u8], first: u64) -> Verdict {
     }
 }
 
-/// Whether the tuple that starts here is a visible row.
+/// Whether the tuple that starts here is a visible row: exactly when its deleted
+/// byte is 0 and its xmax is 0.
 fn is_visible(tuple: &[u8]) -> bool {
-    tuple[16] == 0
+    let xmax = &tuple[8..16];
+    tuple[16] == 0 && xmax.iter().all(|byte| *byte == 0)
 }
 
-/// The first row on a page of type 1 at or after a (page, slot) with deleted
-/// byte 0, in that order, with its page, slot, tuple length and the tuple's
-/// offset in the pages, or none.
+/// The first visible row on a page of type 1 at or after a (page, slot), in that
+/// order, with its page, slot, tuple length and the tuple's offset in the pages,
+/// or none.
 pub fn next_visible(magic: u64, pages: &[u8], page: u64, slot: u16) -> Visible {
     if let Err(Refusal { number, place }) = check(magic, pages, 0) {
         return Visible {
@@ -110,6 +112,23 @@ pub fn next_visible(magic: u64, pages: &[u8], page: u64, slot: u16) -> Visible {
 /// Visible rows from a (page, slot) on, four numbers each: page, slot, tuple length and the tuple's offset in the pages,
 /// as many as fit. Says how many, and the place of the next one, or the count of pages and 0 where there is none.
 pub fn list_visible(magic: u64, pages: &[u8], page: u64, slot: u16, rows: &mut [u64]) -> Listing {
+    list(magic, pages, page, slot, rows, is_visible)
+}
+
+/// The same of the rows that are passed over there.
+pub fn list_cancelled(magic: u64, pages: &[u8], page: u64, slot: u16, rows: &mut [u64]) -> Listing {
+    list(magic, pages, page, slot, rows, |tuple| !is_visible(tuple))
+}
+
+/// The rows whose tuples are wanted.
+fn list(
+    magic: u64,
+    pages: &[u8],
+    page: u64,
+    slot: u16,
+    rows: &mut [u64],
+    is_wanted: fn(&[u8]) -> bool,
+) -> Listing {
     if let Err(Refusal { number, place }) = check(magic, pages, 0) {
         return Listing {
             number,
@@ -133,7 +152,7 @@ pub fn list_visible(magic: u64, pages: &[u8], page: u64, slot: u16, rows: &mut [
             let Some((at, length)) = tuple_in_slot(own, candidate) else {
                 continue;
             };
-            if !is_visible(&own[at..]) {
+            if !is_wanted(&own[at..]) {
                 continue;
             }
             let Some(row) = room.next() else {

@@ -14,13 +14,14 @@ use crate::{assert_no_differences, tell};
 const SEEDS: Range<u64> = 0..20_000;
 
 /// The calls that refuse by the paper's numbers.
-const REFUSING: [&str; 8] = [
+const REFUSING: [&str; 9] = [
     "recover",
     "read_row",
     "verify",
     "verify_from",
     "next_visible",
     "list_visible",
+    "list_cancelled",
     "free_map",
     "log_open",
 ];
@@ -88,11 +89,27 @@ fn both_programs_agree_on_every_seed() {
     assert_often(
         seen,
         &[
-            ("visible row", 20_000),
+            ("visible row", 10_000),
             ("listing that goes on", 2_000),
             ("row from the log", 5_000),
             ("row from the pages", 5_000),
             ("empty slot", 3_000),
+        ],
+    );
+}
+
+/// Rows with and without an xmax and a deleted byte; of the four kinds one alone is visible.
+#[test]
+fn each_kind_of_row_is_listed() {
+    let seen = seen();
+    assert_no_differences(seen);
+    assert_often(
+        seen,
+        &[
+            ("row with neither xmax nor deleted byte", 5_000),
+            ("row with xmax and deleted byte 0", 5_000),
+            ("row with xmax 0 and deleted byte", 1_000),
+            ("row with xmax and deleted byte", 1_000),
         ],
     );
 }

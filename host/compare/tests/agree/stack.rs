@@ -38,6 +38,10 @@ fn call_everything() {
         library::list_visible(MAGIC, &pages, 299, 80, &mut [0; 4]).count,
         0
     );
+    assert_eq!(
+        library::list_cancelled(MAGIC, &pages, 299, 80, &mut [0; 4]).count,
+        0
+    );
     assert_eq!(library::free_map(MAGIC, &pages, &mut [0; 38]).free, 0);
     let row = library::read_row(MAGIC, 0, &pages, &log, 299, 900);
     assert_eq!(row.payload(&pages, &log), b"late");
