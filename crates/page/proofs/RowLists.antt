@@ -15,7 +15,6 @@ use types.Run.{OneOf, miss}
 use denote.Enum.Declared.{tagOf}
 use Rattle.endian.specs.Pick.{pick, consIf}
 use Rattle.page.specs.Layout.{dataType, pagesIn, pageAt, typeOf, countOf, slotAt}
-use Rattle.page.specs.Good.{DataGood}
 use Rattle.page.specs.Rows.{row, slotRows, pageRows, rowsFrom, rowsOf, atOrAfter, firstAt, rowsAt, Listable, numbersOf, numbersPerRow, numbersOfAll, listed, listOf, listAfter, noList, rowList, rowsAfter}
 use Rattle.page.specs.Fault.{verdictOf}
 use Rattle.refusals.specs.declared.Verdict.{Verdict}
@@ -24,11 +23,12 @@ use Rattle.page.specs.declared.RowList.{RowList}
 use Rattle.page.specs.declared.NextRow.{NextRow}
 use Rattle.page.specs.declared.NextRow.the-variants.{Refused, At, NoMore}
 use Rattle.page.proofs.NextRow.{the-type}
+use Rattle.page.proofs.ListedRows.{Each, Standing, rows-stand}
 
 -- ---- the order of places
 
 -- slot k of page i is at or before the place of r
-abbrev Before : ℕ → ℕ → Row → Type 0
+abbrev pub Before : ℕ → ℕ → Row → Type 0
 Before i k r = (i < r .page .0) ⊎ ((r .page .0 ≡ i) × (k ≤ r .slot))
 
 is-before : (i k : ℕ) (r : Row) → atOrAfter i k r ≡ true → Before i k r
@@ -39,7 +39,7 @@ is-before i k r h = go (eqb (r .page .0) i) refl h
     go true e q = inr (eqb-true _ _ e, leb-true _ _ q)
     go false e q = inl (ltb-true _ _ q)
 
-before-is : (i k : ℕ) (r : Row) → Before i k r → atOrAfter i k r ≡ true
+pub before-is : (i k : ℕ) (r : Row) → Before i k r → atOrAfter i k r ≡ true
 unfolding atOrAfter
 before-is i k r (inl l) = simp (ne-eqb (r .page .0) i (λ e. absurd (omega arith)), lt-ltb i (r .page .0) l)
 before-is i k r (inr p) = simp (eq-eqb (r .page .0) i (p .0), le-leb k (r .slot) (p .1))
@@ -54,11 +54,11 @@ not-before i k r h = go (atOrAfter i k r) refl
 -- ---- rows in their order
 
 -- each stands behind the one before it, and the first at or after slot k of page i
-abbrev Rising : ℕ → ℕ → List Row → Type 0
+abbrev pub Rising : ℕ → ℕ → List Row → Type 0
 Rising i k [] = Unit
 Rising i k (r ∷ rs) = Before i k r × Rising (r .page .0) (suc (r .slot)) rs
 
-lower : (i k i′ k′ : ℕ) (rs : List Row) → (i′ < i) ⊎ ((i′ ≡ i) × (k′ ≤ k)) → Rising i k rs → Rising i′ k′ rs
+pub lower : (i k i′ k′ : ℕ) (rs : List Row) → (i′ < i) ⊎ ((i′ ≡ i) × (k′ ≤ k)) → Rising i k rs → Rising i′ k′ rs
 lower i k i′ k′ [] h u = tt
 lower i k i′ k′ (r ∷ rs) h u = (go h (u .0), u .1)
   where
@@ -87,23 +87,24 @@ module _ (shows : List ℕ → Bool) where
       go true = rising-slots i p (countOf p) 0 rest u
       go false = lower (suc i) 0 i 0 rest (inl (omega arith)) u
 
-  rising-pages : (s : List ℕ) (n i : ℕ) → Rising i 0 (rowsFrom shows s n i)
+  pub rising-pages : (s : List ℕ) (n i : ℕ) → Rising i 0 (rowsFrom shows s n i)
   unfolding rowsFrom
   rising-pages s zero i = tt
   rising-pages s (suc n) i = rising-page i (pageAt i s) (rowsFrom shows s n (suc i)) (rising-pages s n (suc i))
+
+-- what is behind a row is behind every place before it
+pub down : (i k : ℕ) (r : Row) → Before i k r → (i < r .page .0) ⊎ ((i ≡ r .page .0) × (k ≤ suc (r .slot)))
+down i k r (inl l) = inl l
+down i k r (inr p) = inr (sym (p .0), omega arith)
 
 -- ---- one row after another
 
 module _ (i k : ℕ) where
   -- rows that are all behind a place
-  all-at : (rs : List Row) → Rising i k rs → rowsAt i k rs ≡ rs
+  pub all-at : (rs : List Row) → Rising i k rs → rowsAt i k rs ≡ rs
   unfolding rowsAt
   all-at [] u = refl
-  all-at (r ∷ rs) u = rw (before-is i k r (u .0)) (ap (λ (x : List Row). r ∷ x) (all-at rs (lower (r .page .0) (suc (r .slot)) i k rs (down (u .0)) (u .1))))
-    where
-      down : Before i k r → (i < r .page .0) ⊎ ((i ≡ r .page .0) × (k ≤ suc (r .slot)))
-      down (inl l) = inl l
-      down (inr p) = inr (sym (p .0), omega arith)
+  all-at (r ∷ rs) u = rw (before-is i k r (u .0)) (ap (λ (x : List Row). r ∷ x) (all-at rs (lower (r .page .0) (suc (r .slot)) i k rs (down i k r (u .0)) (u .1))))
 
 abbrev headOr : Row → List Row → Row
 headOr d [] = d
@@ -155,15 +156,11 @@ module _ (i k : ℕ) (r : Row) (rest : List Row) where
       not-earlier (inr x) (inl y) = absurd (omega arith)
       not-earlier (inr x) (inr y) = absurd (omega arith)
 
-      down : Before i k q → (i < q .page .0) ⊎ ((i ≡ q .page .0) × (k ≤ suc (q .slot)))
-      down (inl l) = inl l
-      down (inr p) = inr (sym (p .0), omega arith)
-
       go : (t : Bool) → atOrAfter i k q ≡ t → (rowsAt i k rs ≡ r ∷ rest → rest ≡ rowsAt (r .page .0) (suc (r .slot)) rs) → consIf t q (rowsAt i k rs) ≡ r ∷ rest
           → rest ≡ rowsAt (r .page .0) (suc (r .slot)) (q ∷ rs)
       go true b f h =
           let z : q ≡ r = ap (headOr r) h in
-          let up : Rising i k rs = lower (q .page .0) (suc (q .slot)) i k rs (down (is-before i k q b)) (u .1) in
+          let up : Rising i k rs = lower (q .page .0) (suc (q .slot)) i k rs (down i k q (is-before i k q b)) (u .1) in
           sym (ap tailOf h) ∙ all-at i k rs up ∙ sym (all-at (r .page .0) (suc (r .slot)) rs (rw z at (u .1))) ∙ sym (past (not-itself z))
       go false b f h = f h ∙ sym (past (not-earlier (behind (q .page .0) (suc (q .slot)) rs (u .1) h)))
 
@@ -181,7 +178,7 @@ first-is i k (r ∷ rs) = go (atOrAfter i k r) (first-is i k rs)
     go true e = refl
     go false e = e
 
-abbrev rowOr : Row → NextRow → Row
+abbrev pub rowOr : Row → NextRow → Row
 rowOr d (Refused v) = d
 rowOr d (At r) = r
 rowOr d NoMore = d
@@ -206,50 +203,19 @@ module _ (shows : List ℕ → Bool) (s : List ℕ) (i k : ℕ) where
   pub row-none : (x : NextRow) → x ≡ firstAt i k (rowsOf shows s) → OneOf (0 ∷ 2 ∷ []) (tagOf the-type x) → rowsAt i k (rowsOf shows s) ≡ []
   row-none x e o = head-none (rowsAt i k (rowsOf shows s)) (rw (e ∙ first-is i k (rowsOf shows s)) at o)
 
--- ---- a row's slot is below 4,080
+-- ---- a property of all rows of a listing is one of a row that is met
 
-abbrev Low : List Row → Type 0
-Low [] = Unit
-Low (r ∷ rs) = (r .slot < 4080) × Low rs
-
-low-append : (xs ys : List Row) → Low xs → Low ys → Low (xs ++ ys)
-low-append [] ys u v = v
-low-append (r ∷ xs) ys u v = (u .0, low-append xs ys (u .1) v)
-
-module _ (shows : List ℕ → Bool) where
-  low-slots : (i : ℕ) (p : List ℕ) (n k : ℕ) → k + n ≤ 4080 → Low (slotRows shows i p n k)
-  unfolding slotRows
-  low-slots i p zero k l = tt
-  low-slots i p (suc n) k l = go (shows (slotAt p k)) (low-slots i p n (suc k) (omega arith))
-    where
-      go : (t : Bool) → Low (slotRows shows i p n (suc k)) → Low (consIf t (row i k p) (slotRows shows i p n (suc k)))
-      go true u = (omega arith, u)
-      go false u = u
-
-  low-page : (i : ℕ) (p : List ℕ) → (typeOf p ≡ dataType → DataGood p) → Low (pageRows shows i p)
-  unfolding pageRows
-  low-page i p d = go (eqb (typeOf p) dataType) refl
-    where
-      go : (t : Bool) → eqb (typeOf p) dataType ≡ t → Low (pick t (slotRows shows i p (countOf p) 0) [])
-      go true e = let g = d (eqb-true _ _ e) in low-slots i p (countOf p) 0 (omega (arith, g .start, g .startEnd, g .end))
-      go false e = tt
-
-  low-pages : (s : List ℕ) → Listable s → (n i : ℕ) → i + n ≡ pagesIn s → Low (rowsFrom shows s n i)
-  unfolding rowsFrom
-  low-pages s d zero i e = tt
-  low-pages s d (suc n) i e = low-append (pageRows shows i (pageAt i s)) (rowsFrom shows s n (suc i)) (low-page i (pageAt i s) (d .at i (omega arith))) (low-pages s d n (suc i) (omega arith))
-
-low-first : (i k : ℕ) (r : Row) (rs : List Row) → Low rs → firstAt i k rs ≡ At r → r .slot < 4080
+each-first : (P : Row → Type 0) (i k : ℕ) (r : Row) (rs : List Row) → Each P rs → firstAt i k rs ≡ At r → P r
 unfolding firstAt
-low-first i k r [] u e = let z : _≡_ {A = ℕ} 0 1 = cc in absurd (omega arith)
-low-first i k r (q ∷ rs) u e = go (atOrAfter i k q) (low-first i k r rs (u .1)) e
+each-first P i k r [] u e = let z : _≡_ {A = ℕ} 0 1 = cc in absurd (omega arith)
+each-first P i k r (q ∷ rs) u e = go (atOrAfter i k q) (each-first P i k r rs (u .1)) e
   where
-    go : (t : Bool) → (firstAt i k rs ≡ At r → r .slot < 4080) → pick t (At q) (firstAt i k rs) ≡ At r → r .slot < 4080
+    go : (t : Bool) → (firstAt i k rs ≡ At r → P r) → pick t (At q) (firstAt i k rs) ≡ At r → P r
     go true f h = let z : q ≡ r = ap (rowOr r) h in rw (← z) (u .0)
     go false f h = f h
 
-pub slot-low : (shows : List ℕ → Bool) (s : List ℕ) → Listable s → (i k : ℕ) (r : Row) → firstAt i k (rowsOf shows s) ≡ At r → r .slot < 4080
-slot-low shows s d i k r e = low-first i k r (rowsOf shows s) (low-pages shows s d (pagesIn s) 0 (omega arith)) e
+pub row-stands : (shows : List ℕ → Bool) → shows [] ≡ false → (s : List ℕ) → Listable s → (i k : ℕ) (r : Row) → firstAt i k (rowsOf shows s) ≡ At r → Standing s r
+row-stands shows none s d i k r e = each-first (Standing s) i k r (rowsOf shows s) (rows-stand shows none s d) e
 
 -- ---- rows as numbers
 

@@ -25,7 +25,7 @@ abbrev pub shownLength : Bool → List ℕ → ℕ
 shownLength live t = pick (shown live t) (length t) 0
 
 -- an empty slot is not shown
-empty : (live : Bool) → shown live [] ≡ false
+pub empty : (live : Bool) → shown live [] ≡ false
 unfolding visible cancelled
 empty true = refl
 empty false = refl

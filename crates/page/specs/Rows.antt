@@ -6,7 +6,7 @@ use mathlib.Core.Bool.{Bool, false, not, _&&_}
 use lib.ListN.{length, take, drop}
 use lib.Dec.{ltb, leb, eqb}
 use Rattle.endian.specs.Pick.{pick, consIf}
-use Rattle.page.specs.Layout.{dataType, pagesIn, pageAt, typeOf, countOf, slotAt, tupleOffset, xmaxOf, deletedOf}
+use Rattle.page.specs.Layout.{dataType, pagesIn, pageAt, typeOf, countOf, slotAt, tupleOffset, xmaxOf, deletedOf, payloadOf}
 use Rattle.page.specs.Fault.{verdictOf}
 use Rattle.refusals.specs.Verdict.{accepted}
 use Rattle.refusals.specs.declared.Verdict.{Verdict}
@@ -77,6 +77,21 @@ unlessRefused v r = pick (eqb (v .number) 0) r (Refused v)
 
 unfoldable pub nextRow : ℕ → List ℕ → ℕ → ℕ → NextRow
 nextRow magic s i k = unlessRefused (verdictOf magic s) (firstAt i k (visibleRows s))
+
+-- ---- a search (paper 02, W7 and below)
+
+-- the payload of a row of a page area
+abbrev pub rowPayload : List ℕ → Row → List ℕ
+rowPayload s r = payloadOf (slotAt (pageAt (r .page .0) s) (r .slot))
+
+-- the first of some rows that passes a test
+unfoldable pub firstWith : (Row → Bool) → List Row → NextRow
+firstWith f [] = NoMore
+firstWith f (r ∷ rs) = pick (f r) (At r) (firstWith f rs)
+
+-- the first visible row, in the order of the listing, that passes a test; refused as the listing is
+unfoldable pub searched : ℕ → List ℕ → (Row → Bool) → NextRow
+searched magic s f = unlessRefused (verdictOf magic s) (firstWith f (visibleRows s))
 
 -- ---- many rows at a time
 

@@ -104,4 +104,32 @@ extern "C" {
         out: *mut u64,
         out_len: usize,
     );
+
+    pub fn lq_table_read(payload: *const u8, len: usize, out: *mut u64, out_len: usize);
+
+    pub fn lq_table_read_older(payload: *const u8, len: usize, out: *mut u64, out_len: usize);
+
+    pub fn lq_table_write(
+        table: u32,
+        root: u64,
+        schema: *const u8,
+        schema_len: usize,
+        name: *const u8,
+        name_len: usize,
+        layout: u8,
+        version: u64,
+        area: *mut u8,
+        area_len: usize,
+        out: *mut u64,
+        out_len: usize,
+    );
+
+    pub fn lq_table_find(
+        magic: u64,
+        pages: *const u8,
+        len: usize,
+        table: u32,
+        out: *mut u64,
+        out_len: usize,
+    );
 }

@@ -148,6 +148,9 @@ fn general(number: u64) -> &'static str {
         refusal::PAGE_ID => "another page stands here: see that the file was copied whole and in order, or put the page back from a backup or the double-write file; `verify --all` lists every bad page",
         refusal::PAGE_CHECKSUM => "the page is torn or damaged: put it back from a backup or the double-write file; `verify --all` lists every bad page",
         refusal::PAGE_SLOTS => "the body's checksum is right, so the page was written like this or its header, which has no checksum, is damaged: put it back from a backup or the double-write file; `verify --all` lists every bad page",
+        refusal::TABLE_ROW_ENDS_EARLY | refusal::TABLE_ROW_FORM | refusal::TABLE_ROW_LAYOUT => "see that these bytes are a row of the catalog's tables, whole",
+        refusal::TABLE_ROW_NO_ROOM => "lend a longer area, or shorten the name",
+        refusal::TABLE_ROW_NEWER => "use a reader that knows the newest form",
         _ => "use a version of this command that fits the library",
     }
 }

@@ -1,6 +1,6 @@
 //! The two files that commands read, and the options that say how.
 
-use std::path::PathBuf;
+use std::path::{Path, PathBuf};
 
 use library::{Verdict, LOG_HEAD_BYTES, LOG_LIMIT_BYTES, PAGE_BYTES, PAGE_LIMIT};
 
@@ -35,8 +35,26 @@ impl Pages {
         Pages::of(parsed, held.read(PAGE_BYTES * PAGE_LIMIT)?)
     }
 
+    /// Reads the page file that an option names, if it is given; its magic is that of its page 0.
+    pub fn chosen(parsed: &Parsed, option: &str) -> Result<Option<Pages>, Failure> {
+        let Some(path) = parsed.chosen_path(option) else {
+            return Ok(None);
+        };
+        if files::is_standard(path) && parsed.takes_standard() {
+            return Err(parsed.wrong("only one file can be standard input".to_string()));
+        }
+        let whole = files::read(path, PAGE_BYTES * PAGE_LIMIT)?;
+        Pages::with_magic(path, whole, None).map(Some)
+    }
+
     fn of(parsed: &Parsed, whole: Whole) -> Result<Pages, Failure> {
-        let path = parsed.path(0);
+        let given = parsed.chosen_number("--magic")?;
+        let pages = Pages::with_magic(parsed.path(0), whole, given)?;
+        parsed.magic.set(Some(pages.magic));
+        Ok(pages)
+    }
+
+    fn with_magic(path: &Path, whole: Whole, given: Option<u64>) -> Result<Pages, Failure> {
         let Whole {
             bytes,
             length,
@@ -45,9 +63,7 @@ impl Pages {
         if bytes.is_empty() {
             return Err(Failure::file("use", path, "it is empty and holds no page"));
         }
-        let given = parsed.chosen_number("--magic")?;
         let magic = given.unwrap_or_else(|| magic_of_page_0(&bytes));
-        parsed.magic.set(Some(magic));
         Ok(Pages {
             path: path.to_path_buf(),
             magic,

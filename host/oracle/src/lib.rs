@@ -2,6 +2,7 @@
 //! slowly, so that another program can be compared with this one.
 
 mod bytes;
+mod catalog;
 mod crc;
 mod examine;
 mod listing;
@@ -11,6 +12,7 @@ mod page;
 mod recovery;
 mod row;
 
+pub use catalog::{table_find, table_read, table_read_older, table_write, Table, Written};
 pub use crc::crc32c;
 pub use listing::{
     free_map, list_cancelled, list_visible, next_visible, verify, verify_from, FreeMap, Listing,

@@ -44,7 +44,7 @@ pub struct FreeMap {
 }
 
 /// Refusal 1, then the first page from an index on that is not good.
-fn check(magic: u64, pages: &[u8], first: u64) -> Result<(), Refusal> {
+pub(crate) fn check(magic: u64, pages: &[u8], first: u64) -> Result<(), Refusal> {
     check_page_bytes(pages)?;
     check_pages_from(magic, pages, first)
 }
@@ -82,31 +82,9 @@ pub fn next_visible(magic: u64, pages: &[u8], page: u64, slot: u16) -> Visible {
             ..Visible::default()
         };
     }
-    for (index, own) in pages.chunks_exact(PAGE_BYTES).enumerate() {
-        if page_type(own) != DATA {
-            continue;
-        }
-        for candidate in 0..item_count(own) {
-            if (index as u64, candidate) < (page, slot as usize) {
-                continue;
-            }
-            let Some((at, length)) = tuple_in_slot(own, candidate) else {
-                continue;
-            };
-            if is_visible(&own[at..]) {
-                return Visible {
-                    number: 0,
-                    place: 0,
-                    found: 1,
-                    page: index as u64,
-                    slot: candidate as u64,
-                    length: length as u64,
-                    offset: (index * PAGE_BYTES + at) as u64,
-                };
-            }
-        }
-    }
-    Visible::default()
+    visible_rows(pages)
+        .find(|row| (row.page, row.slot) >= (page, slot.into()))
+        .unwrap_or_default()
 }
 
 /// Visible rows from a (page, slot) on, four numbers each: page, slot, tuple length and the tuple's offset in the pages,
@@ -141,29 +119,17 @@ fn list(
         ..Listing::default()
     };
     let mut room = rows.chunks_exact_mut(4);
-    for (index, own) in pages.chunks_exact(PAGE_BYTES).enumerate() {
-        if page_type(own) != DATA {
+    for found in rows_of(pages, is_wanted) {
+        if (found.page, found.slot) < (page, slot.into()) {
             continue;
         }
-        for candidate in 0..item_count(own) {
-            if (index as u64, candidate) < (page, slot as usize) {
-                continue;
-            }
-            let Some((at, length)) = tuple_in_slot(own, candidate) else {
-                continue;
-            };
-            if !is_wanted(&own[at..]) {
-                continue;
-            }
-            let Some(row) = room.next() else {
-                answer.page = index as u64;
-                answer.slot = candidate as u64;
-                return answer;
-            };
-            let offset = index * PAGE_BYTES + at;
-            row.copy_from_slice(&[index, candidate, length, offset].map(|number| number as u64));
-            answer.count += 1;
-        }
+        let Some(row) = room.next() else {
+            answer.page = found.page;
+            answer.slot = found.slot;
+            return answer;
+        };
+        row.copy_from_slice(&[found.page, found.slot, found.length, found.offset]);
+        answer.count += 1;
     }
     answer
 }
@@ -198,4 +164,32 @@ pub fn free_map(magic: u64, pages: &[u8], map: &mut [u8]) -> FreeMap {
         place: 0,
         free,
     }
+}
+
+/// Every visible row, in the order of the listing.
+pub(crate) fn visible_rows(pages: &[u8]) -> impl Iterator<Item = Visible> + '_ {
+    rows_of(pages, is_visible)
+}
+
+/// Every row of the Data pages whose tuple is wanted, in the order of the
+/// listing.
+fn rows_of(pages: &[u8], is_wanted: fn(&[u8]) -> bool) -> impl Iterator<Item = Visible> + '_ {
+    let data = pages
+        .chunks_exact(PAGE_BYTES)
+        .enumerate()
+        .filter(|(_, own)| page_type(own) == DATA);
+    data.flat_map(move |(index, own)| {
+        (0..item_count(own)).filter_map(move |slot| {
+            let (at, length) = tuple_in_slot(own, slot)?;
+            is_wanted(&own[at..]).then_some(Visible {
+                number: 0,
+                place: 0,
+                found: 1,
+                page: index as u64,
+                slot: slot as u64,
+                length: length as u64,
+                offset: (index * PAGE_BYTES + at) as u64,
+            })
+        })
+    })
 }

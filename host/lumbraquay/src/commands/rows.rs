@@ -1,15 +1,13 @@
 //! `rows`: every visible row, or every cancelled one, as the library lists them.
 
-use library::{Listed, Listing, PAGE_BYTES, ROW_NUMBERS};
-
 use crate::advice::unless_refused;
 use crate::args::{Choice, Command, Parsed, JSON, MAGIC};
 use crate::failure::Failure;
 use crate::input::{head_fields, Pages, Read};
 use crate::json::Json;
+use crate::listing::{rows, List, Row};
 use crate::output::Output;
 use crate::show;
-use crate::tuple::Tuple;
 
 pub const COMMAND: Command = Command {
     name: "rows",
@@ -31,44 +29,6 @@ pub const COMMAND: Command = Command {
 
 /// How many letters of a payload stand in a line of text.
 const SHOWN: usize = 60;
-
-/// How many rows are asked for at a time: the library checks all pages for each listing.
-const AT_ONCE: usize = 65_536;
-
-/// A row of a listing.
-struct Row<'a> {
-    at: Listed,
-    tuple: Tuple<'a>,
-}
-
-/// A listing of the library.
-type List = fn(u64, &[u8], u64, u16, &mut [u64]) -> Listing;
-
-/// The rows of pages that are all good, in order, or those of one page.
-fn rows(pages: &Pages, list: List, only: Option<u64>) -> impl Iterator<Item = Row<'_>> {
-    let end = (pages.bytes.len() / PAGE_BYTES) as u64;
-    let mut from = (only.unwrap_or(0), 0);
-    let lists = std::iter::from_fn(move || {
-        if from.0 >= end {
-            return None;
-        }
-        let mut numbers = vec![0; ROW_NUMBERS * AT_ONCE];
-        let list = list(pages.magic, &pages.bytes, from.0, from.1, &mut numbers);
-        if list.number != 0 {
-            return None;
-        }
-        from = (list.page, list.slot as u16);
-        let rows = library::listed(&numbers).take(list.count as usize);
-        Some(rows.collect::<Vec<Listed>>())
-    });
-    let rows = lists
-        .flatten()
-        .take_while(move |at| only.is_none_or(|page| page == at.page));
-    rows.filter_map(|at| {
-        let bytes = &pages.bytes[at.offset as usize..][..at.length as usize];
-        Tuple::of(bytes).map(|tuple| Row { at, tuple })
-    })
-}
 
 fn run(parsed: &Parsed, output: &mut Output) -> Result<(), Failure> {
     let only = parsed.chosen_number("--page")?;

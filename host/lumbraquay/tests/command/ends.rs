@@ -29,9 +29,12 @@ fn every_end_has_a_result() {
     for words in [
         "verify outage.pages",
         "rows outage.pages",
+        "tables outage.pages",
+        "table outage.pages 14",
         "freemap outage.pages",
         "log outage.log",
         "log outage.log --stats",
+        "log outage.log --catalog outage.pages",
         "pages outage.pages",
         "row outage.pages outage.log 1 1",
         "report outage.pages outage.log",

@@ -159,8 +159,14 @@ fn listings_refuse_too() {
         let case = case_of(mutation);
         let aim = case.aim.expect("an aim");
         let sandbox = sandbox_of(&case);
-        for command in ["verify", "rows", "freemap"] {
-            let words = format!("{command} pages --magic {:#x}", case.magic);
+        for command in [
+            "verify pages",
+            "rows pages",
+            "tables pages",
+            "table pages 14",
+            "freemap pages",
+        ] {
+            let words = format!("{command} --magic {:#x}", case.magic);
             assert_told(sandbox.say(&words), aim.number, aim.place);
             assert_told_as_json(
                 sandbox.say(&format!("{words} --json")),

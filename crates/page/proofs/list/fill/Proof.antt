@@ -5,7 +5,8 @@ use lib.ListN.{length}
 use borrow.Author.Needs.{needs}
 use Rattle.page.specs.Rows.{shown, rowsAt, rowsOf, firstAt}
 use Rattle.page.specs.declared.NextRow.the-variants.{At}
-use Rattle.page.proofs.RowLists.{Given, row-next, row-none, slot-low, given-none, given-length, given-more, given-end, given-full}
+use Rattle.page.proofs.RowLists.{Given, row-next, row-none, row-stands, given-none, given-length, given-more, given-end, given-full}
+use Rattle.page.proofs.Visibility.{empty}
 use Rattle.page.proofs.list.fill.Statement.{statement}
 use Rattle.page.proofs.list.fill.Tie as tie
 
@@ -57,7 +58,8 @@ add-m c = let g = c .before .before .before .before .before .before .before .bef
 add-k : tie.Need-add-k Inv-loop μ-loop
 add-k c =
     let n = c .before .before .before .before .before .before .before in
-    record { fits = omega (arith, slot-low _ _ (n .before .before .before .before .before .before .pre) _ _ _ (met n)) }
+    let s = n .before .before .before .before .before .before in
+    record { fits = omega (arith, row-stands _ (empty (s .args .live)) _ (s .pre) _ _ _ (met n) .low) }
 
 loop-less : tie.Need-loop-less Inv-loop μ-loop
 loop-less c = let n = c .before .before .before .before .before .before .before in omega (arith, ap length (row-next _ _ _ _ _ (met n)))
