@@ -146,7 +146,8 @@ enum lq_step {
 void lq_verify(uint64_t magic, const uint8_t *pages, size_t len, uint64_t *out, size_t out_len);
 
 /* The same of the pages from an index on; numbers and places are those of all the pages. To find every bad page, go on
- * behind the one that is given. A page lent by itself would be refused by 17. */
+ * behind the one that is given. An index behind the last page gives 0, or 1 for a wrong size. A page lent by itself
+ * would be refused by 17. */
 void lq_verify_from(uint64_t magic, const uint8_t *pages, size_t len, uint64_t first, uint64_t *out, size_t out_len);
 
 /* The answer of both. */

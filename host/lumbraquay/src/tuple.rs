@@ -65,12 +65,12 @@ impl<'a> Tuple<'a> {
     }
 }
 
-/// A row's state: live where it is visible. Older releases of the portal cancelled a row by its xmax alone.
+/// A row's state: live where it is visible, else cancelled. Older releases of the portal cancelled a row by its xmax alone.
 pub fn state(is_deleted: bool, xmax: u64) -> &'static str {
     match (is_deleted, xmax) {
-        (true, _) => "deleted",
+        (true, _) => "cancelled, deleted byte 1",
         (false, 0) => "live",
-        (false, _) => "cancelled",
+        (false, _) => "cancelled, deleted byte 0",
     }
 }
 

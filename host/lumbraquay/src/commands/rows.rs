@@ -45,7 +45,7 @@ fn run(parsed: &Parsed, output: &mut Output) -> Result<(), Failure> {
         true => ("cancelled", library::list_cancelled),
         false => ("visible", library::list_visible),
     };
-    let rows = rows(&pages, list, only).take(limit);
+    let mut rows = rows(&pages, list, only);
     if parsed.flag("--json") {
         let mut fields = head_fields(parsed, "done", verdict);
         fields.extend(pages.fields());
@@ -54,7 +54,7 @@ fn run(parsed: &Parsed, output: &mut Output) -> Result<(), Failure> {
             ("cancelled", cancelled.into()),
             (
                 "rows",
-                Json::List(rows.map(|row| row_fields(&row)).collect()),
+                Json::List(rows.take(limit).map(|row| row_fields(&row)).collect()),
             ),
         ]);
         return output.line(Json::Object(fields));
@@ -70,7 +70,7 @@ fn run(parsed: &Parsed, output: &mut Output) -> Result<(), Failure> {
         deleted("deleted")
     ))?;
     let mut listed = 0;
-    for row in rows {
+    for row in rows.by_ref().take(limit) {
         listed += 1;
         output.line(format_args!(
             "{:>6}  {:>5}  {:>6}  {:>8}  {:>8}{}  {}",
@@ -83,10 +83,17 @@ fn run(parsed: &Parsed, output: &mut Output) -> Result<(), Failure> {
             show::payload(row.tuple.payload(), SHOWN)
         ))?;
     }
+    let all = listed + rows.count() as u64;
+    let part = match listed < all {
+        true => format!("{listed} of "),
+        false => String::new(),
+    };
+    let row = format!("{shown} row");
+    let all = show::count(all, &row, &format!("{row}s"));
+    output.line(format_args!("{part}{all}"))?;
     if of_cancelled {
-        return output.line(show::count(listed, "cancelled row", "cancelled rows"));
+        return Ok(());
     }
-    output.line(show::count(listed, "visible row", "visible rows"))?;
     let passed = show::count(cancelled, "row", "rows");
     let more = match cancelled {
         0 => "",

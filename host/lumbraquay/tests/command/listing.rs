@@ -117,7 +117,7 @@ fn cancelled_rows_in_words() {
     sandbox
         .say("rows outage.pages.recovered --limit 1")
         .done()
-        .says(&["1 visible row\n1 row passed over as cancelled; --cancelled lists it\n"]);
+        .says(&["1 of 6 visible rows\n1 row passed over as cancelled; --cancelled lists it\n"]);
 
     // Orders 1001 and 1004 as an older release of the portal cancelled them.
     let mut pages = sandbox.read("outage.pages.recovered");
@@ -153,11 +153,15 @@ fn cancelled_rows_in_words() {
     sandbox
         .say("rows stamped.pages --cancelled --limit 2")
         .done()
-        .says(&["2 cancelled rows\n"]);
+        .says(&["2 of 3 cancelled rows\n"]);
+    sandbox
+        .say("rows stamped.pages --cancelled --limit 3")
+        .done()
+        .says(&["\n3 cancelled rows\n"]);
     sandbox
         .say("row stamped.pages outage.log 2 0 --log-until 32 --floor 1000")
         .done()
-        .says(&["page 2 slot 0: cancelled, xmin 4, xmax 12\n"]);
+        .says(&["page 2 slot 0: cancelled, deleted byte 0, xmin 4, xmax 12\n"]);
 }
 
 #[test]
@@ -180,7 +184,7 @@ fn rows_may_be_few() {
     sandbox
         .say("rows outage.pages --limit 1")
         .done()
-        .says(&["order 1001", "1 visible row\n"]);
+        .says(&["order 1001", "1 of 6 visible rows\n"]);
 
     // A row that is recovered as deleted is no longer listed.
     sandbox.say("recover outage.pages outage.log").done();
@@ -273,7 +277,7 @@ fn row_in_words() {
         "payload of 39 bytes, at offset 32729 of the pages: \"order 1001: 6 ramshorn hooks for Quay 1\"\n",
     ]);
     row("1 2").says(&[
-        "page 1 slot 2: deleted, xmin 4, xmax 10\n",
+        "page 1 slot 2: cancelled, deleted byte 1, xmin 4, xmax 10\n",
         "of the log: \"order 1003",
     ]);
     row("2 2").says(&["page 2 slot 2: no row\n"]);
