@@ -164,8 +164,8 @@ module _ (s : List ℕ) where
       let z : 0 + 8 * i ≡ 8 * i = omega arith in
       let m = mapBytes s (n - (i + 8)) (8 * i + 8 * 8) in
       let d : drop i (mapBytes s n 0) ≡ mapBytes s 8 (8 * i) ++ m =
-          ap (λ (k : ℕ). drop i (mapBytes s k 0)) e ∙ ap (drop i) (bytes-join s i (8 + (n - (i + 8))) 0) ∙ drop-at (mapBytes s i 0) _ i (length-bytes s i 0)
-          ∙ ap (mapBytes s (8 + (n - (i + 8)))) z ∙ bytes-join s 8 (n - (i + 8)) (8 * i) in
+      ap (λ (k : ℕ). drop i (mapBytes s k 0)) e ∙ ap (drop i) (bytes-join s i (8 + (n - (i + 8))) 0) ∙ drop-at (mapBytes s i 0) _ i (length-bytes s i 0)
+      ∙ ap (mapBytes s (8 + (n - (i + 8)))) z ∙ bytes-join s 8 (n - (i + 8)) (8 * i) in
       let t = ap (take 8) d ∙ take-at (mapBytes s 8 (8 * i)) m 8 (length-bytes s 8 (8 * i)) in
       ap (λ (k : List ℕ). ones (numberOf k)) t ∙ ones-number (mapBytes s 8 (8 * i)) (bytes-map 8 (8 * i)) ∙ ones-bytes s 8 (8 * i)
 
