@@ -37,6 +37,16 @@ pub const PAGE_CHECKSUM: u64 = 18;
 
 pub const PAGE_SLOTS: u64 = 19;
 
+pub const DOUBLEWRITE_HEADER: u64 = 22;
+
+pub const DOUBLEWRITE_CHECKSUM: u64 = 23;
+
+pub const DOUBLEWRITE_MARK: u64 = 24;
+
+pub const DOUBLEWRITE_PAGES: u64 = 25;
+
+pub const DOUBLEWRITE_SHORT: u64 = 26;
+
 // A refusal's number and place; number 0 is none.
 pub struct Verdict {
     pub number: u64,
