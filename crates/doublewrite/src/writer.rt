@@ -1,0 +1,2 @@
+// Writing a file.
+ghost use mathlib.Core.Path.{_≡_};
