@@ -12,7 +12,7 @@ use Rattle.refusals.specs.declared.Verdict.{Verdict}
 use Rattle.page.specs.Layout.{pageBytes, pagesIn, pageAt, crcOf, bodyOf}
 use Rattle.page.specs.Fault.{faultOf, isSound, sizeWrong}
 use Rattle.doublewrite.specs.File.{slotCount, idAt, copyAt, fileVerdict}
-use Rattle.doublewrite.specs.declared.Repair.{Repair}
+use Rattle.doublewrite.specs.declared.Restored.{Restored}
 
 -- ---- one page
 
@@ -65,11 +65,11 @@ unfoldable pub repairVerdict : List ℕ → List ℕ → Verdict
 repairVerdict s f = pick (sizeWrong s) (verdict pageArea 0) (fileVerdict f (pagesIn s))
 
 -- the verdict, and the count of pages restored; refused, 0
-unfoldable pub repairOf : ℕ → List ℕ → List ℕ → Repair
+unfoldable pub repairOf : ℕ → List ℕ → List ℕ → Restored
 repairOf magic s f =
     pick (eqb (repairVerdict s f .number) 0)
-    (record { verdict = accepted; restored = restored magic f s })
-    (record { verdict = repairVerdict s f; restored = 0 })
+    (record { verdict = accepted; count = restored magic f s })
+    (record { verdict = repairVerdict s f; count = 0 })
 
 -- the pages then; refused, as lent
 unfoldable pub pagesAfter : ℕ → List ℕ → List ℕ → List ℕ

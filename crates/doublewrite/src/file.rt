@@ -24,7 +24,7 @@ const HEADER_BYTES: usize = 16;
 
 const SLOT_BYTES: usize = 16392;
 
-pub const FOOTER_BYTES: usize = 8;
+const FOOTER_BYTES: usize = 8;
 
 // The header's fields: the bytes "AXMDBLWR" as a number, the version, and where that and the slot count stand.
 pub const NAME: u64 = 0x5257_4C42_444D_5841;
@@ -50,6 +50,14 @@ pub fn slot_place(k: usize) -> usize
     HEADER_BYTES + SLOT_BYTES * k
 }
 
+// The bytes of a file of n slots.
+pub fn file_bytes(n: usize) -> usize
+    requires { ⌜ n < 4294967296 ⌝ }
+    ensures { λ r. ⌜ r ≡ fileBytes n ⌝ }
+{
+    slot_place(n) + FOOTER_BYTES
+}
+
 // How many slots the header says.
 pub fn count(file: &[u8]) -> usize
     requires { ⌜ fileBytes 0 ≤ length (now file) ⌝ }
@@ -71,7 +79,7 @@ pub fn headed(file: &[u8]) -> bool
     if u32_at(file, VERSION_AT) != VERSION {
         return false;
     }
-    file.len() == slot_place(count(file)) + FOOTER_BYTES
+    file.len() == file_bytes(count(file))
 }
 
 // The page that slot k names.
