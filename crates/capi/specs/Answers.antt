@@ -20,6 +20,9 @@ use Rattle.refusals.specs.declared.Verdict.{Verdict}
 use Rattle.page.specs.declared.NextRow.{NextRow}
 use Rattle.page.specs.declared.RowList.{RowList}
 use Rattle.page.specs.declared.NextRow.the-variants.{Refused, At, NoMore}
+use Rattle.doublewrite.specs.declared.Contents.{Contents}
+use Rattle.doublewrite.specs.declared.Restored.{Restored}
+use Rattle.doublewrite.specs.declared.Written.{Written}
 use Rattle.rules.specs.Lent.{Lent}
 
 -- lq_version
@@ -100,6 +103,20 @@ unfoldable pub freeMapNumbers : ℕ → List ℕ → List ℕ → List ℕ
 freeMapNumbers magic pages map =
     let v = mapVerdict magic pages map in
     v .number ∷ v .place ∷ freeCount magic pages map ∷ []
+
+-- ---- double-write files
+
+-- lq_doublewrite_read: number, place, slots
+abbrev pub contentsNumbers : Contents → List ℕ
+contentsNumbers c = c .verdict .number ∷ c .verdict .place ∷ c .slots ∷ []
+
+-- lq_repair: number, place, pages restored
+abbrev pub restoredNumbers : Restored → List ℕ
+restoredNumbers r = r .verdict .number ∷ r .verdict .place ∷ r .count ∷ []
+
+-- lq_doublewrite_write: number, place, length written
+abbrev pub writtenNumbers : Written → List ℕ
+writtenNumbers w = w .verdict .number ∷ w .verdict .place ∷ w .length ∷ []
 
 -- ---- recovery
 

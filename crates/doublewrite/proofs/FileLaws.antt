@@ -13,7 +13,10 @@ use Rattle.endian.specs.Numbers.{numberOf, numberAt}
 use Rattle.crc32c.specs.Crc.{crc32c}
 use Rattle.refusals.specs.Verdict.{verdict, accepted}
 use Rattle.page.proofs.Picks.{both}
-use Rattle.doublewrite.specs.File.{slotPlace, fileBytes, name, version, slotCount, mark, isHeaded, isSummed, isMarked, idsFit, fileVerdict}
+use Rattle.doublewrite.specs.File.{slotPlace, fileBytes, name, version, slotCount, idAt, isHeaded, isSummed, isMarked, idsFit, fileVerdict, readVerdict, contentsOf, idOf}
+use Rattle.refusals.specs.declared.Verdict.{Verdict}
+use Rattle.page.specs.Layout.{pageLimit}
+use Rattle.doublewrite.specs.declared.Contents.{Contents}
 
 -- the name as a number
 pub name-number : numberOf name ≡ 0x5257_4C42_444D_5841
@@ -53,28 +56,80 @@ module _ (f : List ℕ) where
       let q = both (eqb (numberAt 4 8 f) version) _ (p .1) in
       eqb-true _ _ (q .1)
 
-  -- ---- the verdict
+  pub headed-least : isHeaded f ≡ true → fileBytes 0 ≤ length f
+  headed-least e = omega (arith, headed-size e)
+
+  -- ---- the verdict on a file of n slots
 
   module _ (pages : ℕ) where
     pub case-header : isHeaded f ≡ false → verdict 22 0 ≡ fileVerdict f pages
     unfolding fileVerdict
     case-header h = sym (rw h)
 
-    module _ (h : isHeaded f ≡ true) where
-      pub case-sum : isSummed f (slotCount f) ≡ false → verdict 23 0 ≡ fileVerdict f pages
+    module _ (h : isHeaded f ≡ true) (n : ℕ) (e : n ≡ slotCount f) where
+      pub case-sum : isSummed f n ≡ false → verdict 23 0 ≡ fileVerdict f pages
       unfolding fileVerdict
-      case-sum s = sym (rw (h, s))
+      case-sum s = sym (rw (h, ← e, s))
 
-      module _ (s : isSummed f (slotCount f) ≡ true) where
-        pub case-mark : isMarked f (slotCount f) ≡ false → verdict 24 0 ≡ fileVerdict f pages
+      module _ (s : isSummed f n ≡ true) where
+        pub case-mark : isMarked f n ≡ false → verdict 24 0 ≡ fileVerdict f pages
         unfolding fileVerdict
-        case-mark m = sym (rw (h, s, m))
+        case-mark m = sym (rw (h, ← e, s, m))
 
-        module _ (m : isMarked f (slotCount f) ≡ true) where
-          pub case-ids : idsFit f pages (slotCount f) ≡ false → verdict 25 0 ≡ fileVerdict f pages
+        module _ (m : isMarked f n ≡ true) where
+          pub case-ids : idsFit f pages n ≡ false → verdict 25 0 ≡ fileVerdict f pages
           unfolding fileVerdict
-          case-ids i = sym (rw (h, s, m, i))
+          case-ids i = sym (rw (h, ← e, s, m, i))
 
-          pub case-fine : idsFit f pages (slotCount f) ≡ true → accepted ≡ fileVerdict f pages
+          pub case-fine : idsFit f pages n ≡ true → accepted ≡ fileVerdict f pages
           unfolding fileVerdict
-          case-fine i = sym (rw (h, s, m, i))
+          case-fine i = sym (rw (h, ← e, s, m, i))
+
+    -- what acceptance says
+    pub accepted-file : fileVerdict f pages .number ≡ 0
+        → (fileVerdict f pages ≡ accepted) × (isHeaded f ≡ true) × (isSummed f (slotCount f) ≡ true) × (isMarked f (slotCount f) ≡ true) × (idsFit f pages (slotCount f) ≡ true)
+    unfolding fileVerdict
+    accepted-file = by-tests (isHeaded f) (isSummed f (slotCount f)) (isMarked f (slotCount f)) (idsFit f pages (slotCount f))
+      where
+        abbrev told : Bool → Bool → Bool → Bool → Verdict
+        told h s m i = pick h (pick s (pick m (pick i accepted (verdict 25 0)) (verdict 24 0)) (verdict 23 0)) (verdict 22 0)
+
+        by-tests : (h s m i : Bool) → told h s m i .number ≡ 0 → (told h s m i ≡ accepted) × (h ≡ true) × (s ≡ true) × (m ≡ true) × (i ≡ true)
+        by-tests true true true true e = (refl, refl, refl, refl, refl)
+        by-tests true true true false e = absurd (omega arith)
+        by-tests true true false i e = absurd (omega arith)
+        by-tests true false m i e = absurd (omega arith)
+        by-tests false s m i e = absurd (omega arith)
+
+    -- ---- reading
+
+    pub read-many : pageLimit < pages → {v : Verdict} → v ≡ verdict 1 0 → record { verdict = v; slots = 0 } ≡ contentsOf f pages
+    unfolding contentsOf readVerdict
+    read-many h e = rw (e, lt-ltb pageLimit pages h)
+
+    module _ (h : pages ≤ pageLimit) {v : Verdict} (e : v ≡ fileVerdict f pages) where
+      pub read-refused : (v .number ≡ 0 → ⊥) → record { verdict = v; slots = 0 } ≡ contentsOf f pages
+      unfolding contentsOf readVerdict
+      read-refused r = sym (rw (le-ltb pageLimit pages h, ← e, ne-eqb (v .number) 0 r))
+
+      pub read-fine : v .number ≡ 0 → (n : ℕ) → n ≡ slotCount f → record { verdict = v; slots = n } ≡ contentsOf f pages
+      unfolding contentsOf readVerdict
+      read-fine z n c =
+          let a : v ≡ accepted = e ∙ accepted-file (ap (λ (u : Verdict). u .number) (sym e) ∙ z) .0 in
+          sym (rw (le-ltb pageLimit pages h, ← e, a, ← c))
+
+  -- ---- the id of a slot
+
+  module _ (k : ℕ) where
+    pub id-none : isHeaded f ≡ false → 0 ≡ idOf f k
+    unfolding idOf
+    id-none h = sym (rw h)
+
+    module _ (h : isHeaded f ≡ true) where
+      pub id-past : slotCount f ≤ k → 0 ≡ idOf f k
+      unfolding idOf
+      id-past l = sym (rw (h, le-ltb k (slotCount f) l))
+
+      pub id-there : k < slotCount f → idAt f k ≡ idOf f k
+      unfolding idOf
+      id-there l = sym (rw (h, lt-ltb k (slotCount f) l))

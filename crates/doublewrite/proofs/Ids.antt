@@ -3,14 +3,14 @@
 use mathlib.Core.Path.{_≡_, refl, sym, ap, _∙_}
 use mathlib.Core.Bool.{Bool, true, false}
 use Prim.Native.Nat.{ℕ, zero, suc, _+_, _≤_, _<_}
-use native.Mathlib.Decide.{decLe}
+use native.Mathlib.Decide.{decLe, ℕ-discrete}
 use native.Mathlib.Numerals.{add-one}
 use native.Mathlib.Omega.{arith}
 use mathlib.Core.List.{List}
-use lib.Dec.{ltb, eqb}
-use borrow.Author.Tests.{lt-ltb, le-ltb, ltb-true, eq-eqb, ne-eqb, eqb-false}
+use lib.Dec.{ltb}
+use borrow.Author.Tests.{lt-ltb, le-ltb, ltb-true}
 use Rattle.endian.specs.Pick.{pick}
-use Rattle.page.proofs.Picks.{never, both, neither}
+use Rattle.page.proofs.Picks.{never, both}
 use Rattle.doublewrite.specs.File.{idAt, isNamed, idsFit}
 
 module _ (f : List ℕ) where
@@ -45,3 +45,20 @@ module _ (f : List ℕ) where
         pub fit-more : isNamed f i k ≡ false → idsFit f pages k ≡ true → idsFit f pages (k + 1) ≡ true
         unfolding idsFit
         fit-more t r = rw (add-one k, ← e, lt-ltb i pages h, t) r
+
+  -- ---- what it says of each slot
+
+  pub fit-each : (pages n k : ℕ) → idsFit f pages n ≡ true → k < n → (idAt f k < pages) × (isNamed f (idAt f k) k ≡ false)
+  unfolding idsFit
+  fit-each pages zero k e l = absurd (omega arith)
+  fit-each pages (suc n) k e l =
+      let p = both (ltb (idAt f n) pages) _ e in
+      let q = passed (isNamed f (idAt f n) n) _ (p .1) in
+      elim (ℕ-discrete k n) [
+        | yes z ↦ rw z (ltb-true _ _ (p .0), q .0)
+        | no d ↦ fit-each pages n k (q .1) (omega arith)
+      ]
+    where
+      passed : (t u : Bool) → pick t false u ≡ true → (t ≡ false) × (u ≡ true)
+      passed true u h = never h
+      passed false u h = (refl, h)

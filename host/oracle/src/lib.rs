@@ -3,6 +3,7 @@
 
 mod bytes;
 mod crc;
+mod doublewrite;
 mod examine;
 mod listing;
 mod log;
@@ -12,6 +13,9 @@ mod recovery;
 mod row;
 
 pub use crc::crc32c;
+pub use doublewrite::{
+    doublewrite_id, doublewrite_read, doublewrite_write, repair, Contents, Repair, Written,
+};
 pub use listing::{
     free_map, list_visible, next_visible, verify, verify_from, FreeMap, Listing, Verdict, Visible,
 };

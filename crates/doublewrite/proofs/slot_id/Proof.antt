@@ -1,36 +1,25 @@
+use mathlib.Core.Path.{sym, _∙_}
+use native.Mathlib.Omega.{arith}
 use borrow.Author.Needs.{needs}
+use borrow.Author.Tests.{not-true, not-false}
+use Rattle.doublewrite.proofs.FileLaws.{headed-size, headed-least, id-none, id-past, id-there}
 use Rattle.doublewrite.proofs.slot_id.Statement.{statement}
 use Rattle.doublewrite.proofs.slot_id.Tie as tie
-use Rattle.doublewrite.proofs.slot_id.Reads as reads
-use Rattle.doublewrite.proofs.slot_id.Lts as lts
-use Rattle.doublewrite.proofs.file.count.Reads as count-reads
-use Rattle.doublewrite.proofs.file.headed.Reads as headed-reads
-use Rattle.doublewrite.proofs.file.id_at.Reads as id-at-reads
 
--- src/lib.rt:77:9
-headed-requires : tie.Need-headed-requires
-headed-requires c κs = search needs
-
--- src/lib.rt:78:9
 returns : tie.Need-returns
-returns c = ?
+returns c = id-none _ _ (sym (c .before .headed .ensures) ∙ not-true _ (c .if1 .taken))
 
--- src/lib.rt:80:8
 count-requires : tie.Need-count-requires
-count-requires c κs = ?
+count-requires c κs = headed-least _ (sym (c .before .headed .ensures) ∙ not-false _ (c .if1 .left))
 
--- src/lib.rt:81:9
 returns-2 : tie.Need-returns-2
-returns-2 c = ?
+returns-2 c = let i = c .before .before in id-past _ _ (sym (i .before .headed .ensures) ∙ not-false _ (i .if1 .left)) (omega arith)
 
--- src/lib.rt:83:16
 id-at-requires : tie.Need-id-at-requires
-id-at-requires c κs = ?
+id-at-requires c κs = let i = c .before .before in omega (arith, headed-size _ (sym (i .before .headed .ensures) ∙ not-false _ (i .if1 .left)))
 
--- src/lib.rt:74:1
 returns-3 : tie.Need-returns-3
-returns-3 c = ?
+returns-3 c = let i = c .before .before .before in c .id-at .ensures ∙ id-there _ _ (sym (i .before .headed .ensures) ∙ not-false _ (i .if1 .left)) (omega arith)
 
 pub slot-id-spec : {M : Type 1} → statement M
-slot-id-spec =
-    tie.close (tie.spec headed-requires returns count-requires returns-2 id-at-requires returns-3)
+slot-id-spec = tie.close (tie.spec (λ c κs. search needs) returns count-requires returns-2 id-at-requires returns-3)

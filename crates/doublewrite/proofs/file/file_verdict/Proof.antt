@@ -1,91 +1,72 @@
+use mathlib.Core.Path.{sym, ap, _∙_}
+use native.Mathlib.Omega.{arith}
 use borrow.Author.Needs.{needs}
+use borrow.Author.Tests.{not-true, not-false}
+use Rattle.doublewrite.specs.File.{fileBytes}
+use Rattle.doublewrite.proofs.FileLaws.{headed-size, headed-least, case-header, case-sum, case-mark, case-ids, case-fine}
 use Rattle.doublewrite.proofs.file.file_verdict.Statement.{statement}
 use Rattle.doublewrite.proofs.file.file_verdict.Tie as tie
-use Rattle.doublewrite.proofs.file.file_verdict.Reads as reads
-use Rattle.doublewrite.proofs.file.file_verdict.Lts as lts
-use Rattle.doublewrite.proofs.file.count.Reads as count-reads
-use Rattle.doublewrite.proofs.file.ended.Reads as ended-reads
-use Rattle.doublewrite.proofs.file.headed.Reads as headed-reads
-use Rattle.doublewrite.proofs.file.ids_fit.Reads as ids-fit-reads
-use Rattle.doublewrite.proofs.file.summed.Reads as summed-reads
-use Rattle.doublewrite.proofs.refusal.Reads as refusal-reads
 
--- src/file.rt:138:9
-headed-requires : tie.Need-headed-requires
-headed-requires c κs = search needs
-
--- src/file.rt:139:9
-refusal-requires : tie.Need-refusal-requires
-refusal-requires c κs = search needs
-
--- src/file.rt:139:9
 returns : tie.Need-returns
-returns c = ?
+returns c = c .refusal .ensures ∙ case-header _ _ (sym (c .before .before .headed .ensures) ∙ not-true _ (c .before .if1 .taken))
 
--- src/file.rt:141:9
 count-requires : tie.Need-count-requires
-count-requires c κs = ?
+count-requires c κs = headed-least _ (sym (c .before .headed .ensures) ∙ not-false _ (c .if1 .left))
 
--- src/file.rt:142:9
 summed-requires : tie.Need-summed-requires
-summed-requires c κs = ?
+summed-requires c κs =
+    let i = c .before in
+    (i .before .before .before .pre .0, (c .count .ensures .1, headed-size _ (sym (i .before .headed .ensures) ∙ not-false _ (i .if1 .left)) ∙ ap fileBytes (sym (c .count .ensures .0))))
 
--- src/file.rt:143:9
-refusal-requires-2 : tie.Need-refusal-requires-2
-refusal-requires-2 c κs = search needs
-
--- src/file.rt:143:9
 returns-2 : tie.Need-returns-2
-returns-2 c = ?
+returns-2 c =
+    let s = c .before .before in
+    let n = s .before in
+    let i = n .before in
+    c .refusal2 .ensures ∙ case-sum _ _ (sym (i .before .headed .ensures) ∙ not-false _ (i .if1 .left)) (n .count .result) (n .count .ensures .0) (sym (s .summed .ensures) ∙ not-true _ (c .before .if2 .taken))
 
--- src/file.rt:145:9
 ended-requires : tie.Need-ended-requires
-ended-requires c κs = ?
+ended-requires c κs =
+    let n = c .before .before in
+    let i = n .before in
+    (n .count .ensures .1, headed-size _ (sym (i .before .headed .ensures) ∙ not-false _ (i .if1 .left)) ∙ ap fileBytes (sym (n .count .ensures .0)))
 
--- src/file.rt:146:9
-refusal-requires-3 : tie.Need-refusal-requires-3
-refusal-requires-3 c κs = search needs
-
--- src/file.rt:146:9
 returns-3 : tie.Need-returns-3
-returns-3 c = ?
+returns-3 c =
+    let m = c .before .before in
+    let s = m .before .before in
+    let n = s .before in
+    let i = n .before in
+    c .refusal3 .ensures
+    ∙ case-mark _ _ (sym (i .before .headed .ensures) ∙ not-false _ (i .if1 .left)) (n .count .result) (n .count .ensures .0) (sym (s .summed .ensures) ∙ not-false _ (m .before .if2 .left)) (sym (m .ended .ensures) ∙ not-true _ (c .before .if3 .taken))
 
--- src/file.rt:148:9
 ids-fit-requires : tie.Need-ids-fit-requires
-ids-fit-requires c κs = ?
+ids-fit-requires c κs =
+    let n = c .before .before .before .before in
+    let i = n .before in
+    (n .count .ensures .1, headed-size _ (sym (i .before .headed .ensures) ∙ not-false _ (i .if1 .left)) ∙ ap fileBytes (sym (n .count .ensures .0)), i .before .before .before .pre .1)
 
--- src/file.rt:149:9
-refusal-requires-4 : tie.Need-refusal-requires-4
-refusal-requires-4 c κs = search needs
-
--- src/file.rt:149:9
 returns-4 : tie.Need-returns-4
-returns-4 c = ?
+returns-4 c =
+    let d = c .before .before in
+    let m = d .before .before in
+    let s = m .before .before in
+    let n = s .before in
+    let i = n .before in
+    c .refusal4 .ensures
+    ∙ case-ids _ _ (sym (i .before .headed .ensures) ∙ not-false _ (i .if1 .left)) (n .count .result) (n .count .ensures .0) (sym (s .summed .ensures) ∙ not-false _ (m .before .if2 .left)) (sym (m .ended .ensures) ∙ not-false _ (d .before .if3 .left)) (sym (d .ids-fit .ensures) ∙ not-true _ (c .before .if4 .taken))
 
--- src/file.rt:151:5
-refusal-requires-5 : tie.Need-refusal-requires-5
-refusal-requires-5 c κs = search needs
-
--- src/file.rt:133:1
 returns-5 : tie.Need-returns-5
-returns-5 c = ?
+returns-5 c =
+    let d = c .before .before in
+    let m = d .before .before in
+    let s = m .before .before in
+    let n = s .before in
+    let i = n .before in
+    c .refusal5 .ensures
+    ∙ case-fine _ _ (sym (i .before .headed .ensures) ∙ not-false _ (i .if1 .left)) (n .count .result) (n .count .ensures .0) (sym (s .summed .ensures) ∙ not-false _ (m .before .if2 .left)) (sym (m .ended .ensures) ∙ not-false _ (d .before .if3 .left)) (sym (d .ids-fit .ensures) ∙ not-false _ (c .before .if4 .left))
 
 pub file-verdict-spec : {M : Type 1} → statement M
 file-verdict-spec =
     tie.close
-    (tie.spec
-    headed-requires
-    refusal-requires
-    returns
-    count-requires
-    summed-requires
-    refusal-requires-2
-    returns-2
-    ended-requires
-    refusal-requires-3
-    returns-3
-    ids-fit-requires
-    refusal-requires-4
-    returns-4
-    refusal-requires-5
-    returns-5)
+    (tie.spec (λ c κs. search needs) (λ c κs. search needs) returns count-requires summed-requires (λ c κs. search needs) returns-2 ended-requires (λ c κs. search needs) returns-3 ids-fit-requires (λ c κs. search needs) returns-4 (λ c κs. search needs) returns-5)

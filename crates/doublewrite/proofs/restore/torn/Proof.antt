@@ -1,22 +1,14 @@
+use mathlib.Core.Path.{ap, ap₂, _∙_}
+use mathlib.Core.Bool.{not}
+use lib.Dec.{eqb}
 use borrow.Author.Needs.{needs}
+use Rattle.doublewrite.specs.Repair.{isTorn}
 use Rattle.doublewrite.proofs.restore.torn.Statement.{statement}
 use Rattle.doublewrite.proofs.restore.torn.Tie as tie
-use Rattle.doublewrite.proofs.restore.torn.Reads as reads
-use Rattle.doublewrite.proofs.restore.torn.Lts as lts
-use Rattle.endian.proofs.inner.u32_at.Reads as u32-at-reads
-use Rattle.page.proofs.inner.checksum.Reads as checksum-reads
 
--- src/restore.rt:31:5
-u32-at-requires : tie.Need-u32-at-requires
-u32-at-requires c κs = search needs
-
--- src/restore.rt:31:29
-checksum-requires : tie.Need-checksum-requires
-checksum-requires c κs = search needs
-
--- src/restore.rt:26:1
 returns : tie.Need-returns
-returns c = ?
+unfolding isTorn
+returns c = ap not (ap₂ eqb (c .before .u32-at .ensures) (c .checksum .ensures))
 
 pub torn-spec : {M : Type 1} → statement M
-torn-spec = tie.close (tie.spec u32-at-requires checksum-requires returns)
+torn-spec = tie.close (tie.spec (λ c κs. search needs) (λ c κs. search needs) returns)
