@@ -18,6 +18,9 @@ use Rattle.refusals.specs.declared.Verdict.{Verdict}
 use Rattle.page.specs.Layout.{pageLimit}
 use Rattle.doublewrite.specs.declared.Contents.{Contents}
 
+abbrev told : Bool → Bool → Bool → Bool → Verdict
+told h s m i = pick h (pick s (pick m (pick i accepted (verdict 25 0)) (verdict 24 0)) (verdict 23 0)) (verdict 22 0)
+
 -- the name as a number
 pub name-number : numberOf name ≡ 0x5257_4C42_444D_5841
 unfolding numberOf
@@ -91,9 +94,6 @@ module _ (f : List ℕ) where
     unfolding fileVerdict
     accepted-file = by-tests (isHeaded f) (isSummed f (slotCount f)) (isMarked f (slotCount f)) (idsFit f pages (slotCount f))
       where
-        abbrev told : Bool → Bool → Bool → Bool → Verdict
-        told h s m i = pick h (pick s (pick m (pick i accepted (verdict 25 0)) (verdict 24 0)) (verdict 23 0)) (verdict 22 0)
-
         by-tests : (h s m i : Bool) → told h s m i .number ≡ 0 → (told h s m i ≡ accepted) × (h ≡ true) × (s ≡ true) × (m ≡ true) × (i ≡ true)
         by-tests true true true true e = (refl, refl, refl, refl, refl)
         by-tests true true true false e = absurd (omega arith)

@@ -7,7 +7,7 @@ use native.Mathlib.Nat.{add-zero}
 use native.Mathlib.Omega.{arith}
 use mathlib.Core.List.{List, [], _∷_, _++_, append-assoc}
 use lib.ListN.{length, take, drop, getD, length-append, drop-of-length-le}
-use lib.Seq.{drop-cons, drop-at, drop-drop, take-at, drop-append-le}
+use lib.Seq.{drop-cons, drop-nil, drop-at, drop-drop, take-at, take-all, drop-append-le}
 use lib.Dec.{ltb, eqb}
 use borrow.Author.Tests.{lt-ltb, eq-eqb, ne-eqb}
 use Rattle.endian.specs.Pick.{pick}
@@ -32,7 +32,7 @@ use Rattle.doublewrite.proofs.Writing.{name-bytes, Lent, length-slot, l
 slots-behind : (s l : List ℕ) (k : ℕ) → Lent s l → drop (slotBytes * k) (slotsOf s l) ≡ slotsOf s (drop k l)
 unfolding slotsOf
 slots-behind s l zero h = refl
-slots-behind s [] (suc k) h = drop-of-length-le {A = ℕ} [] (omega arith)
+slots-behind s [] (suc k) h = drop-nil {A = ℕ} (slotBytes * suc k)
 slots-behind s (i ∷ l) (suc k) h =
     let e : slotBytes * suc k ≡ slotBytes + slotBytes * k = omega arith in
     rw (e, ← drop-drop (slotBytes * k) slotBytes (slotOf s i ++ slotsOf s l), drop-at (slotOf s i) (slotsOf s l) slotBytes (length-slot s i (h 0 (omega arith))))
@@ -107,15 +107,15 @@ module _ (s l : List ℕ) (lent : Lent s l) where
     unfolding isHeaded
     file-headed = rw (file-name, eq-eqb (numberOf name) (numberOf name) refl, file-version, file-count few, length-file) (eq-eqb (fileBytes (length l)) (fileBytes (length l)) refl)
 
+    mark-number : numberAt 4 (slotPlace (length l) + 4) F ≡ mark
+    unfolding numberAt footerOf
+    mark-number =
+        ap (λ (r : List ℕ). numberOf (take 4 r)) (sym (drop-drop 4 (slotPlace (length l)) F) ∙ ap (drop 4) foot-behind ∙ drop-at (bytesOf 4 (crc32c (frontOf s l))) (bytesOf 4 mark) 4 (length-bytesOf 4 (crc32c (frontOf s l))))
+        ∙ ap numberOf (take-all 4 (bytesOf 4 mark) (omega (arith, length-bytesOf 4 mark))) ∙ number-back 4 mark (omega arith)
+
     file-marked : isMarked F (length l) ≡ true
     unfolding isMarked
-    file-marked = eq-eqb _ mark (number-is)
-      where
-        number-is : numberAt 4 (slotPlace (length l) + 4) F ≡ mark
-        unfolding numberAt footerOf
-        number-is =
-            ap (λ (r : List ℕ). numberOf (take 4 r)) (sym (drop-drop 4 (slotPlace (length l)) F) ∙ ap (drop 4) foot-behind ∙ drop-at (bytesOf 4 (crc32c (frontOf s l))) (bytesOf 4 mark) 4 (length-bytesOf 4 (crc32c (frontOf s l))))
-            ∙ number-back 4 mark (omega arith)
+    file-marked = eq-eqb (numberAt 4 (slotPlace (length l) + 4) F) mark mark-number
 
     -- the checksum fits its four bytes where the pages are bytes
     module _ (bytes : Bytes s) where
@@ -126,17 +126,19 @@ module _ (s l : List ℕ) (lent : Lent s l) where
 
       front-bytes : Bytes (frontOf s l)
       unfolding frontOf headerOf
-      front-bytes = rw (← name-bytes) (bytes-append (bytes-append (bytes-of 8 0x5257_4C42_444D_5841) (bytes-append (bytes-of 4 1) (bytes-of 4 (length l)))) (slots-bytes l))
+      front-bytes =
+          let b : Bytes name = rw name-bytes at (bytes-of 8 0x5257_4C42_444D_5841) in
+          bytes-append (bytes-append b (bytes-append (bytes-of 4 1) (bytes-of 4 (length l)))) (slots-bytes l)
+
+      sum-number : numberAt 4 (slotPlace (length l)) F ≡ crc32c (frontOf s l)
+      unfolding numberAt footerOf
+      sum-number =
+          ap (λ (r : List ℕ). numberOf (take 4 r)) foot-behind ∙ ap numberOf (take-at (bytesOf 4 (crc32c (frontOf s l))) (bytesOf 4 mark) 4 (length-bytesOf 4 (crc32c (frontOf s l))))
+          ∙ number-back 4 (crc32c (frontOf s l)) (omega (arith, crc-lt front-bytes))
 
       file-summed : isSummed F (length l) ≡ true
       unfolding isSummed
-      file-summed = rw front-before (eq-eqb _ (crc32c (frontOf s l)) number-is)
-        where
-          number-is : numberAt 4 (slotPlace (length l)) F ≡ crc32c (frontOf s l)
-          unfolding numberAt footerOf
-          number-is =
-              ap (λ (r : List ℕ). numberOf (take 4 r)) foot-behind ∙ ap numberOf (take-at (bytesOf 4 (crc32c (frontOf s l))) (bytesOf 4 mark) 4 (length-bytesOf 4 (crc32c (frontOf s l))))
-              ∙ number-back 4 (crc32c (frontOf s l)) (omega (arith, crc-lt front-bytes))
+      file-summed = rw front-before (eq-eqb (numberAt 4 (slotPlace (length l)) F) (crc32c (frontOf s l)) sum-number)
 
 -- ---- the file of a list that strictly rises
 

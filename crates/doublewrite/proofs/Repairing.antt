@@ -5,10 +5,12 @@ use mathlib.Core.Bool.{Bool, true, false, not}
 use Prim.Native.Nat.{ℕ, zero, suc, _+_, _*_, _≤_, _<_}
 use native.Mathlib.Nat.{add-zero, zero-add}
 use native.Mathlib.Omega.{arith}
-use mathlib.Core.List.{List, [], _++_}
+use mathlib.Core.List.{List, [], _∷_, _++_}
 use lib.ListN.{length, length-append}
 use lib.Dec.{eqb}
 use borrow.Author.Tests.{eq-eqb, eqb-true}
+use types.Run.{OneOf, miss}
+use denote.Enum.Declared.{tagOf}
 use Rattle.endian.specs.Pick.{pick}
 use Rattle.crc32c.specs.Crc.{crc32c}
 use Rattle.page.specs.Layout.{pageBytes, pagesIn, pageAt, crcOf, bodyOf}
@@ -16,6 +18,7 @@ use Rattle.page.specs.Good.{Good}
 use Rattle.page.specs.Fault.{faultOf, isSound}
 use Rattle.page.specs.declared.Fault.{Fault}
 use Rattle.page.specs.declared.Fault.the-variants.{Sound, MagicOrType, Id, Checksum, Count, FreeStart, FreeEnd, Slot}
+use Rattle.page.proofs.Fault.{the-type}
 use Rattle.page.proofs.Picks.{never, both}
 use Rattle.page.proofs.FaultLaws.{sound-good, good-sound}
 use Rattle.page.proofs.Areas.{page-first, page-later}
@@ -34,7 +37,24 @@ is-sound FreeStart e = never e
 is-sound FreeEnd e = never e
 is-sound (Slot k) e = never e
 
+-- as the `else` of `let Fault::Sound = .. else` knows it: the variant's number is not 0
+pub not-sound : (r : Fault) → OneOf (1 ∷ 2 ∷ 3 ∷ 4 ∷ 5 ∷ 6 ∷ 7 ∷ []) (tagOf the-type r) → isSound r ≡ false
+not-sound Sound o = absurd (miss (1 ∷ 2 ∷ 3 ∷ 4 ∷ 5 ∷ 6 ∷ 7 ∷ []) 0 tt o)
+not-sound MagicOrType o = refl
+not-sound Id o = refl
+not-sound Checksum o = refl
+not-sound Count o = refl
+not-sound FreeStart o = refl
+not-sound FreeEnd o = refl
+not-sound (Slot k) o = refl
+
 module _ (magic i : ℕ) where
+  -- as code judges a page
+  module _ (c : List ℕ) (l : length c ≡ pageBytes) where
+    pub good-is : (r : Fault) → r ≡ faultOf magic i c → isSound r ≡ isGood magic i c
+    unfolding isGood
+    good-is r e = rw (eq-eqb (length c) pageBytes l, e)
+
   -- a copy passes exactly if it is a good page
   pub good-copy : (c : List ℕ) → isGood magic i c ≡ true → Good magic i c
   unfolding isGood
@@ -88,28 +108,23 @@ module _ (magic i : ℕ) where
     page-restored h = rw h
 
     -- a page is kept, or its copy is taken
-    pub page-cases : {A : List ℕ → Type 0} → (isTaken magic i c p ≡ false → A p) → (isTaken magic i c p ≡ true → A c) → A (repairedPage magic i c p)
+    pub page-cases : (A : List ℕ → Type 0) → (isTaken magic i c p ≡ false → A p) → (isTaken magic i c p ≡ true → A c) → A (repairedPage magic i c p)
     unfolding repairedPage
-    page-cases {A} k t = go (isTaken magic i c p) refl
+    page-cases A k t = go (isTaken magic i c p) refl
       where
         go : (b : Bool) → isTaken magic i c p ≡ b → A (pick b c p)
         go true e = t e
         go false e = k e
 
     pub length-page : length p ≡ pageBytes → length (repairedPage magic i c p) ≡ pageBytes
-    length-page h = page-cases {A = λ q. length q ≡ pageBytes} (λ e. h) (λ e. taken-good e .size)
+    length-page h = page-cases (λ q. length q ≡ pageBytes) (λ e. h) (λ e. taken-good e .size)
 
-    -- repaired twice is repaired once
-    pub page-twice : repairedPage magic i c (repairedPage magic i c p) ≡ repairedPage magic i c p
-    page-twice =
-        page-cases {A = λ q. repairedPage magic i c q ≡ q} kept (λ e. again (good-whole c (taken-good e)))
-      where
-        kept : isTaken magic i c p ≡ false → repairedPage magic i c p ≡ p
-        kept e = page-kept e
 
-        again : isTorn c ≡ false → repairedPage magic i c c ≡ c
-        unfolding repairedPage isTaken
-        again h = rw h
+  -- repaired twice is repaired once
+  pub page-twice : (c p : List ℕ) → repairedPage magic i c (repairedPage magic i c p) ≡ repairedPage magic i c p
+  page-twice c p =
+      page-cases c p (λ q. repairedPage magic i c q ≡ q) (page-kept c p)
+      (λ e. page-kept c c (whole-stays c c (good-whole c (taken-good c p e))))
 
 -- ---- an area
 

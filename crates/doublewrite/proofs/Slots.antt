@@ -130,15 +130,15 @@ module _ (magic : ℕ) (f : List ℕ) (k : ℕ) (s : List ℕ) (x : ℕ) (is : x
       let e : t ≡ pick (isTaken magic x (copyAt f k) (pageAt x s)) 1 0 = et ∙ ap (λ (p : List ℕ). pick (isTaken magic x (copyAt f k) p) 1 0) px in
       rw (add-one k) (ap₂ _+_ er e ∙ sym (count-at (pagesIn s) 0 (omega arith) (omega arith)))
 
+pub one-le : (b : Bool) → pick b 1 0 ≤ 1
+one-le true = omega arith
+one-le false = omega arith
+
 -- no more pages are restored than there are
 pub restored-le : (magic : ℕ) (f : List ℕ) (k : ℕ) (s : List ℕ) (n i : ℕ) → restoredBy magic f k s n i ≤ n
 unfolding restoredBy
 restored-le magic f k s zero i = omega arith
 restored-le magic f k s (suc n) i = omega (arith, one-le (isTaken magic i (copyIn f i k) (pageAt i s)), restored-le magic f k s n (suc i))
-  where
-    one-le : (b : Bool) → pick b 1 0 ≤ 1
-    one-le true = omega arith
-    one-le false = omega arith
 
 -- ---- at first no slot is done
 
@@ -151,4 +151,4 @@ none-repaired magic f s l =
 pub none-restored : (magic : ℕ) (f s : List ℕ) (n i : ℕ) → 0 ≡ restoredBy magic f 0 s n i
 unfolding restoredBy copyIn
 none-restored magic f s zero i = refl
-none-restored magic f s (suc n) i = rw (none-taken magic i (pageAt i s)) (none-restored magic f s n (suc i))
+none-restored magic f s (suc n) i = rw (none-taken magic i (pageAt i s)) (omega (arith, none-restored magic f s n (suc i)))

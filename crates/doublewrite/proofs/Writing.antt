@@ -3,11 +3,12 @@
 use mathlib.Core.Path.{_≡_, refl, sym, ap, ap₂, _∙_}
 use mathlib.Core.Bool.{Bool, true, false}
 use Prim.Native.Nat.{ℕ, zero, suc, _+_, _*_, _≤_, _<_}
+use native.Mathlib.Nat.{zero-add}
 use native.Mathlib.Numerals.{add-one}
 use native.Mathlib.Omega.{arith}
 use mathlib.Core.List.{List, [], _∷_, _++_, append-assoc, append-nil}
 use lib.ListN.{length, take, drop, getD, length-append}
-use lib.Seq.{paste, take-suc, take-all, take-paste, length-take-le, getD-take}
+use lib.Seq.{paste, take-suc, take-all, take-paste, length-paste, length-take-le, getD-take}
 use borrow.Author.Tests.{lt-ltb, le-ltb}
 use Rattle.endian.specs.Numbers.{bytesOf}
 use Rattle.endian.proofs.Numbers.{length-bytesOf}
@@ -52,6 +53,12 @@ module _ (s : List ℕ) where
   length-slots (i ∷ l) h =
       length-append (slotOf s i) (slotsOf s l) ∙ omega (arith, length-slot i (h 0 (omega arith)), length-slots l (λ k a. h (suc k) (omega arith)))
 
+  pub length-taken : (l : List ℕ) (k : ℕ) → Lent l → k ≤ length l → length (slotsOf s (take k l)) ≡ slotBytes * k
+  length-taken l k lent h =
+      let lt : length (take k l) ≡ k = length-take-le k l h in
+      let part : Lent (take k l) = λ j a. rw (getD-take k l j 0 (omega arith)) (lent j (omega arith)) in
+      length-slots (take k l) part ∙ ap (λ (n : ℕ). slotBytes * n) lt
+
   pub length-front : (l : List ℕ) → Lent l → length (frontOf s l) ≡ slotPlace (length l)
   unfolding frontOf
   length-front l h = length-append (headerOf (length l)) (slotsOf s l) ∙ omega (arith, length-header (length l), length-slots l h)
@@ -86,14 +93,16 @@ pub slots-stored : (d w v s l : List ℕ) (k : ℕ) → Lent s l → k < length 
     → w ≡ paste d headerBytes (slotsOf s (take k l)) (slotBytes * k) → v ≡ paste w (slotPlace k) (slotOf s (getD l k 0)) slotBytes
     → v ≡ paste d headerBytes (slotsOf s (take (k + 1) l)) (slotBytes * (k + 1))
 slots-stored d w v s l k lent h r ew ev =
-    let lt : length (take k l) ≡ k = length-take-le k l (omega arith) in
-    let part : Lent s (take k l) = λ j a. rw (getD-take k l j 0 (omega arith)) (lent j (omega arith)) in
-    let ls : length (slotsOf s (take k l)) ≡ slotBytes * k = length-slots s (take k l) part ∙ ap (λ (n : ℕ). slotBytes * n) lt in
+    let ls : length (slotsOf s (take k l)) ≡ slotBytes * k = length-taken s l k lent (omega arith) in
     let s1 = first d w (slotsOf s (take k l)) headerBytes (slotBytes * k) ls (omega arith) ew in
     let s2 = more s1 v (slotOf s (getD l k 0)) slotBytes (length-slot s (getD l k 0) (lent k h)) (omega arith) ev in
     let z : slotBytes * k + slotBytes ≡ slotBytes * (k + 1) = omega arith in
     let t : slotsOf s (take (k + 1) l) ≡ slotsOf s (take k l) ++ slotOf s (getD l k 0) = rw (add-one k, take-suc l k 0 h) (slots-snoc s (take k l) (getD l k 0)) in
     s2 .is ∙ ap₂ (λ (a : List ℕ) (n : ℕ). paste d headerBytes a n) (sym t) z
+
+pub length-slotted : (d w s l : List ℕ) (k : ℕ) → Lent s l → k ≤ length l → slotPlace (length l) ≤ length d
+    → w ≡ paste d headerBytes (slotsOf s (take k l)) (slotBytes * k) → length w ≡ length d
+length-slotted d w s l k lent h r e = ap length e ∙ length-paste d headerBytes (slotsOf s (take k l)) (slotBytes * k) (omega arith) (omega (arith, length-taken s l k lent h))
 
 pub footer-stored : (d w1 w2 : List ℕ) (n at crc : ℕ) → at ≡ slotPlace n → fileBytes n ≤ length d → crc ≡ crc32c (take at d)
     → w1 ≡ paste d at (bytesOf 4 crc) 4 → w2 ≡ paste w1 (at + 4) (bytesOf 4 mark) 4 → w2 ≡ paste d (slotPlace n) (footerOf (take (slotPlace n) d)) footerBytes
@@ -113,14 +122,14 @@ file-stored d w1 w2 w3 s l lent r e1 e2 e3 =
     let s1 = first d w1 (headerOf n) 0 headerBytes (length-header n) (omega arith) e1 in
     let s2 = more s1 w2 (slotsOf s l) (slotBytes * n) (length-slots s l lent) (omega arith) e2 in
     let all : take (slotPlace n) front ≡ front = take-all (slotPlace n) front (omega (arith, s2 .long)) in
-    let t : take (slotPlace n) w2 ≡ front = ap (take (slotPlace n)) (s2 .is) ∙ take-paste d 0 front (slotPlace n) (omega arith) (omega (arith, s2 .long)) ∙ all in
+    let t : take (slotPlace n) w2 ≡ front = ap (λ (m : ℕ). take m w2) (sym (zero-add (slotPlace n))) ∙ ap (take (0 + slotPlace n)) (s2 .is) ∙ take-paste d 0 front (slotPlace n) (omega arith) (omega (arith, s2 .long)) ∙ all in
     let s3 = more s2 w3 (footerOf front) footerBytes (length-footer front) (omega arith) (e3 ∙ ap (λ (a : List ℕ). paste w2 (slotPlace n) (footerOf a) footerBytes) t) in
     let whole : take (fileBytes n) (front ++ footerOf front) ≡ front ++ footerOf front = take-all (fileBytes n) (front ++ footerOf front) (omega (arith, s3 .long)) in
     s3 .is ∙ ap (λ (a : List ℕ). a ++ drop (fileBytes n) d) whole
 
 -- ---- the writer's answer, case by case
 
-module _ (s l a : List ℕ) {v : Verdict} where
+module _ (s l a : List ℕ) (v : Verdict) where
   abbrev Refused : Type 0
   Refused = (record { verdict = v; length = 0 } ≡ writtenOf s l a) × (a ≡ areaAfter s l a)
 

@@ -1,135 +1,53 @@
+use mathlib.Core.Path.{sym, ap, _∙_}
 use borrow.Author.Needs.{needs}
+use borrow.Author.Tests.{not-true, not-false}
+use mathlib.Core.List.{List}
+use Prim.Native.Nat.{ℕ, _*_}
+use lib.Seq.{paste}
+use Rattle.page.specs.Layout.{pageBytes}
+use Rattle.doublewrite.specs.File.{idAt, copyAt}
+use Rattle.doublewrite.specs.Repair.{isGood}
+use Rattle.doublewrite.proofs.Slots.{left-whole, left-bad, left-restored, copy-part}
 use Rattle.doublewrite.proofs.restore.restore_page.Statement.{statement}
 use Rattle.doublewrite.proofs.restore.restore_page.Tie as tie
-use Rattle.doublewrite.proofs.restore.restore_page.Reads as reads
-use Rattle.doublewrite.proofs.restore.restore_page.Lts as lts
-use Rattle.doublewrite.proofs.file.id_at.Reads as id-at-reads
-use Rattle.doublewrite.proofs.file.slot_place.Reads as slot-place-reads
-use Rattle.doublewrite.proofs.restore.good.Reads as good-reads
-use Rattle.doublewrite.proofs.restore.torn.Reads as torn-reads
-use Rattle.page.proofs.inner.store.Reads as store-reads
 
--- src/restore.rt:53:9
-id-at-requires : tie.Need-id-at-requires
-id-at-requires c κs = search needs
-
--- src/restore.rt:55:13
-mul-a : tie.Need-mul-a
-mul-a c = search needs
-
--- src/restore.rt:56:13
-add-e : tie.Need-add-e
-add-e c = search needs
-
--- src/restore.rt:57:17
-sub-torn : tie.Need-sub-torn
-sub-torn c = search needs
-
--- src/restore.rt:57:17
-part-torn-start : tie.Need-part-torn-start
-part-torn-start c = search needs
-
--- src/restore.rt:57:17
-part-torn-end : tie.Need-part-torn-end
-part-torn-end c = search needs
-
--- src/restore.rt:57:9
-torn-requires : tie.Need-torn-requires
-torn-requires c κs = search needs
-
--- src/restore.rt:58:9
-same-length : tie.Need-same-length
-same-length c = search needs
-
--- src/restore.rt:58:9
 returns : tie.Need-returns
-returns c = ?
+returns c =
+    let t = c .before in
+    let d = t .before .before .before in
+    let a = d .before .before .before .args in
+    left-whole (a .magic) (d .id-at .result) (idAt (a .file .now) (a .k)) (d .id-at .ensures) (a .pages .now) (copyAt (a .file .now) (a .k))
+    (sym (t .torn .ensures) ∙ not-true _ (c .if1 .taken))
 
--- src/restore.rt:60:13
-slot-place-requires : tie.Need-slot-place-requires
-slot-place-requires c κs = search needs
-
--- src/restore.rt:60:13
-add-p : tie.Need-add-p
-add-p c = search needs
-
--- src/restore.rt:61:13
-add-q : tie.Need-add-q
-add-q c = search needs
-
--- src/restore.rt:62:28
-sub-good : tie.Need-sub-good
-sub-good c = search needs
-
--- src/restore.rt:62:28
-part-good-start : tie.Need-part-good-start
-part-good-start c = search needs
-
--- src/restore.rt:62:28
-part-good-end : tie.Need-part-good-end
-part-good-end c = search needs
-
--- src/restore.rt:62:9
-good-requires : tie.Need-good-requires
-good-requires c κs = search needs
-
--- src/restore.rt:63:9
-same-length-2 : tie.Need-same-length-2
-same-length-2 c = search needs
-
--- src/restore.rt:63:9
 returns-2 : tie.Need-returns-2
-returns-2 c = ?
+returns-2 c =
+    let g = c .before in
+    let p = g .before .before in
+    let e = p .before in
+    let t = e .before in
+    let d = t .before .before .before in
+    let a = d .before .before .before .args in
+    let f = a .file .now in
+    left-bad (a .magic) (d .id-at .result) (idAt f (a .k)) (d .id-at .ensures) (a .pages .now) (copyAt f (a .k)) (sym (t .torn .ensures) ∙ not-false _ (e .if1 .left))
+    (ap (isGood (a .magic) (d .id-at .result)) (sym (copy-part f (a .k) (p .slot-place .result) (p .slot-place .ensures))) ∙ sym (g .good2 .ensures) ∙ not-true _ (c .if2 .taken))
 
--- src/restore.rt:65:21
-sub-store : tie.Need-sub-store
-sub-store c = search needs
-
--- src/restore.rt:65:21
-part-store-start : tie.Need-part-store-start
-part-store-start c = search needs
-
--- src/restore.rt:65:21
-part-store-end : tie.Need-part-store-end
-part-store-end c = search needs
-
--- src/restore.rt:65:5
-store-requires : tie.Need-store-requires
-store-requires c κs = search needs
-
--- src/restore.rt:47:1
-same-length-3 : tie.Need-same-length-3
-same-length-3 c = search needs
-
--- src/restore.rt:47:1
 returns-3 : tie.Need-returns-3
-returns-3 c = ?
+returns-3 c =
+    let s = c .before .before in
+    let h = s .before .before .before in
+    let g = h .before in
+    let p = g .before .before in
+    let e = p .before in
+    let t = e .before in
+    let d = t .before .before .before in
+    let a = d .before .before .before .args in
+    let f = a .file .now in
+    let z = copy-part f (a .k) (p .slot-place .result) (p .slot-place .ensures) in
+    left-restored (a .magic) (d .id-at .result) (idAt f (a .k)) (d .id-at .ensures) (a .pages .now) (copyAt f (a .k)) (sym (t .torn .ensures) ∙ not-false _ (e .if1 .left)) _
+    (ap (isGood (a .magic) (d .id-at .result)) (sym z) ∙ sym (g .good2 .ensures) ∙ not-false _ (h .if2 .left))
+    (s .store .ensures ∙ ap (λ (q : List ℕ). paste (a .pages .now) (d .id-at .result * pageBytes) q pageBytes) z)
 
 pub restore-page-spec : {M : Type 1} → statement M
 restore-page-spec =
     tie.close
-    (tie.spec
-    id-at-requires
-    mul-a
-    add-e
-    sub-torn
-    part-torn-start
-    part-torn-end
-    torn-requires
-    same-length
-    returns
-    slot-place-requires
-    add-p
-    add-q
-    sub-good
-    part-good-start
-    part-good-end
-    good-requires
-    same-length-2
-    returns-2
-    sub-store
-    part-store-start
-    part-store-end
-    store-requires
-    same-length-3
-    returns-3)
+    (tie.spec (λ c κs. search needs) (λ c. search needs) (λ c. search needs) (λ c. search needs) (λ c. search needs) (λ c. search needs) (λ c κs. search needs) (λ c. search needs) returns (λ c κs. search needs) (λ c. search needs) (λ c. search needs) (λ c. search needs) (λ c. search needs) (λ c. search needs) (λ c κs. search needs) (λ c. search needs) returns-2 (λ c. search needs) (λ c. search needs) (λ c. search needs) (λ c κs. search needs) (λ c. search needs) returns-3)

@@ -1,58 +1,24 @@
+use mathlib.Core.Path.{sym}
+use native.Mathlib.Omega.{arith}
+use lib.Seq.{length-take-le}
 use borrow.Author.Needs.{needs}
+use Rattle.doublewrite.proofs.Writing.{footer-stored}
 use Rattle.doublewrite.proofs.writer.put_footer.Statement.{statement}
 use Rattle.doublewrite.proofs.writer.put_footer.Tie as tie
-use Rattle.doublewrite.proofs.writer.put_footer.Reads as reads
-use Rattle.doublewrite.proofs.writer.put_footer.Lts as lts
-use Rattle.crc32c.proofs.inner.crc32c.Reads as crc32c-reads
-use Rattle.doublewrite.proofs.file.slot_place.Reads as slot-place-reads
-use Rattle.endian.proofs.inner.put_u32.Reads as put-u32-reads
 
--- src/writer.rt:87:9
-slot-place-requires : tie.Need-slot-place-requires
-slot-place-requires c κs = search needs
-
--- src/writer.rt:88:25
-slice-reshare-prefix-crc32c : tie.Need-slice-reshare-prefix-crc32c
-slice-reshare-prefix-crc32c c = search needs
-
--- src/writer.rt:88:25
 slice-aggregate-crc32c : tie.Need-slice-aggregate-crc32c
-slice-aggregate-crc32c c = ?
+slice-aggregate-crc32c c = let p = c .before in sym (length-take-le (p .slot-place .result) (p .before .before .args .area .now) (omega arith))
 
--- src/writer.rt:88:9
-crc32c-requires : tie.Need-crc32c-requires
-crc32c-requires c κs = search needs
-
--- src/writer.rt:89:5
-put-u32-requires : tie.Need-put-u32-requires
-put-u32-requires c κs = search needs
-
--- src/writer.rt:90:19
-add-put-u32 : tie.Need-add-put-u32
-add-put-u32 c = search needs
-
--- src/writer.rt:90:5
-put-u32-requires-2 : tie.Need-put-u32-requires-2
-put-u32-requires-2 c κs = search needs
-
--- src/writer.rt:82:1
-same-length : tie.Need-same-length
-same-length c = search needs
-
--- src/writer.rt:82:1
 returns : tie.Need-returns
-returns c = ?
+returns c =
+    let c2 = c .before .before in
+    let c1 = c2 .before .before .before .before in
+    let k = c1 .before .before in
+    let p = k .before .before in
+    let s = p .before .before in
+    footer-stored (s .args .area .now) _ _ (s .args .n) (p .slot-place .result) (k .crc32c .result) (p .slot-place .ensures) (s .pre .1 .1) (k .crc32c .ensures) (c1 .put-u32 .ensures) (c2 .put-u322 .ensures)
 
 pub put-footer-spec : {M : Type 1} → statement M
 put-footer-spec =
     tie.close
-    (tie.spec
-    slot-place-requires
-    slice-reshare-prefix-crc32c
-    slice-aggregate-crc32c
-    crc32c-requires
-    put-u32-requires
-    add-put-u32
-    put-u32-requires-2
-    same-length
-    returns)
+    (tie.spec (λ c κs. search needs) (λ c. search needs) slice-aggregate-crc32c (λ c κs. search needs) (λ c κs. search needs) (λ c. search needs) (λ c κs. search needs) (λ c. search needs) returns)
