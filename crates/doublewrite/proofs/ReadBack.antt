@@ -7,7 +7,7 @@ use native.Mathlib.Nat.{add-zero}
 use native.Mathlib.Omega.{arith}
 use mathlib.Core.List.{List, [], _∷_, _++_, append-assoc}
 use lib.ListN.{length, take, drop, getD, length-append, drop-of-length-le}
-use lib.Seq.{drop-cons, drop-nil, drop-at, drop-drop, take-at, take-all, drop-append-le}
+use lib.Seq.{drop-cons, drop-nil, drop-length, drop-at, drop-drop, take-at, take-all, drop-append-le}
 use lib.Dec.{ltb, eqb}
 use borrow.Author.Tests.{lt-ltb, eq-eqb, ne-eqb}
 use Rattle.endian.specs.Pick.{pick}
@@ -94,7 +94,7 @@ module _ (s l : List ℕ) (lent : Lent s l) where
 
   foot-behind : drop (slotPlace (length l)) F ≡ foot
   unfolding slotsOf
-  foot-behind = behind (length l) (omega arith) ∙ ap (λ (r : List ℕ). slotsOf s r ++ foot) (drop-of-length-le l (omega arith))
+  foot-behind = behind (length l) (omega arith) ∙ ap (λ (r : List ℕ). slotsOf s r ++ foot) (drop-length l)
 
   front-before : take (slotPlace (length l)) F ≡ frontOf s l
   unfolding fileOf

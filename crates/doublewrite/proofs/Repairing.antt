@@ -8,14 +8,16 @@ use native.Mathlib.Omega.{arith}
 use mathlib.Core.List.{List, [], _∷_, _++_}
 use lib.ListN.{length, length-append}
 use lib.Dec.{eqb}
-use borrow.Author.Tests.{eq-eqb, eqb-true}
+use borrow.Author.Tests.{eq-eqb, ne-eqb, eqb-true}
 use types.Run.{OneOf, miss}
 use denote.Enum.Declared.{tagOf}
 use Rattle.endian.specs.Pick.{pick}
 use Rattle.crc32c.specs.Crc.{crc32c}
 use Rattle.page.specs.Layout.{pageBytes, pagesIn, pageAt, crcOf, bodyOf}
 use Rattle.page.specs.Good.{Good}
-use Rattle.page.specs.Fault.{faultOf, isSound}
+use Rattle.page.specs.Fault.{faultOf, isSound, sizeWrong}
+use Rattle.refusals.specs.Verdict.{verdict, accepted}
+use Rattle.refusals.specs.declared.Verdict.{Verdict}
 use Rattle.page.specs.declared.Fault.{Fault}
 use Rattle.page.specs.declared.Fault.the-variants.{Sound, MagicOrType, Id, Checksum, Count, FreeStart, FreeEnd, Slot}
 use Rattle.page.proofs.Fault.{the-type}
@@ -23,7 +25,10 @@ use Rattle.page.proofs.Picks.{never, both}
 use Rattle.page.proofs.FaultLaws.{sound-good, good-sound}
 use Rattle.page.proofs.Areas.{page-first, page-later}
 use Rattle.page.proofs.Verdicts.{page-length}
-use Rattle.doublewrite.specs.Repair.{copyIn, isTorn, isGood, isTaken, repairedPage, repairedBy, repaired}
+use Rattle.doublewrite.specs.File.{slotCount, fileVerdict}
+use Rattle.doublewrite.specs.Repair.{copyIn, isTorn, isGood, isTaken, repairedPage, repairedBy, restoredBy, repairVerdict, repairOf, pagesAfter}
+use Rattle.doublewrite.specs.declared.Restored.{Restored}
+use Rattle.doublewrite.proofs.FileLaws.{accepted-file}
 
 -- ---- one page
 
@@ -155,3 +160,25 @@ module _ (magic : ℕ) (f : List ℕ) (k : ℕ) (s : List ℕ) where
 
   pub length-by : length (repairedBy magic f k s (pagesIn s) 0) ≡ pagesIn s * pageBytes
   length-by = length-from (pagesIn s) 0 (omega arith)
+
+-- ---- the answer, case by case
+
+module _ (magic : ℕ) (s f : List ℕ) (v : Verdict) where
+  abbrev Refused : Type 0
+  Refused = (record { verdict = v; count = 0 } ≡ repairOf magic s f) × (s ≡ pagesAfter magic s f)
+
+  pub repair-size : sizeWrong s ≡ true → v ≡ verdict 1 0 → Refused
+  unfolding repairOf pagesAfter repairVerdict
+  repair-size h e = rw (e, h) (refl, refl)
+
+  module _ (h : sizeWrong s ≡ false) (e : v ≡ fileVerdict f (pagesIn s)) where
+    pub repair-refused : (v .number ≡ 0 → ⊥) → Refused
+    unfolding repairOf pagesAfter repairVerdict
+    repair-refused r = rw (h, ← e, ne-eqb (v .number) 0 r) (refl, refl)
+
+    pub repair-done : v .number ≡ 0 → (n : ℕ) → n ≡ slotCount f → (d : List ℕ) (r : ℕ) → d ≡ repairedBy magic f n s (pagesIn s) 0 → r ≡ restoredBy magic f n s (pagesIn s) 0
+        → (record { verdict = v; count = r } ≡ repairOf magic s f) × (d ≡ pagesAfter magic s f)
+    unfolding repairOf pagesAfter repairVerdict
+    repair-done z n en d r ed er =
+        let a : v ≡ accepted = e ∙ accepted-file f (pagesIn s) (ap (λ (u : Verdict). u .number) (sym e) ∙ z) .0 in
+        rw (h, ← e, a, ed, er, en) (refl, refl)

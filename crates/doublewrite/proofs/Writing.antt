@@ -123,9 +123,9 @@ file-stored d w1 w2 w3 s l lent r e1 e2 e3 =
     let s2 = more s1 w2 (slotsOf s l) (slotBytes * n) (length-slots s l lent) (omega arith) e2 in
     let all : take (slotPlace n) front ≡ front = take-all (slotPlace n) front (omega (arith, s2 .long)) in
     let t : take (slotPlace n) w2 ≡ front = ap (λ (m : ℕ). take m w2) (sym (zero-add (slotPlace n))) ∙ ap (take (0 + slotPlace n)) (s2 .is) ∙ take-paste d 0 front (slotPlace n) (omega arith) (omega (arith, s2 .long)) ∙ all in
-    let s3 = more s2 w3 (footerOf front) footerBytes (length-footer front) (omega arith) (e3 ∙ ap (λ (a : List ℕ). paste w2 (slotPlace n) (footerOf a) footerBytes) t) in
+    let s3 = more s2 w3 (footerOf front) footerBytes (length-footer front) (omega arith) (e3 ∙ ap₂ (λ (a : List ℕ) (m : ℕ). paste w2 m (footerOf a) footerBytes) t (sym (zero-add (slotPlace n)))) in
     let whole : take (fileBytes n) (front ++ footerOf front) ≡ front ++ footerOf front = take-all (fileBytes n) (front ++ footerOf front) (omega (arith, s3 .long)) in
-    s3 .is ∙ ap (λ (a : List ℕ). a ++ drop (fileBytes n) d) whole
+    s3 .is ∙ ap₂ (λ (a : List ℕ) (m : ℕ). a ++ drop m d) whole (zero-add (fileBytes n))
 
 -- ---- the writer's answer, case by case
 

@@ -40,6 +40,16 @@ restore-page-requires c κs =
     let e : pagesIn (l .loop .pages) ≡ pagesIn (s .args .pages .now) = ap (λ (n : ℕ). n / pageBytes) (as-long l) in
     (s .pre .0, (omega (arith, q .0), omega (arith, q .1), omega (arith, e, fit-each (s .args .file .now) (pagesIn (s .args .pages .now)) (s .args .n) (l .loop .k) (q .2) (omega arith) .0)))
 
+add-restored : tie.Need-add-restored Inv-loop μ-loop
+add-restored c =
+    let r = c .before .before in
+    let l = r .before .before .before in
+    let s = l .before .before .before in
+    let a = s .args in
+    let f = a .file .now in
+    let i : ℕ = idAt f (l .loop .k) in
+    omega (arith, l .loop .inv .2, restored-le (a .magic) f (l .loop .k) (a .pages .now) (pagesIn (a .pages .now)) 0, s .pre .1 .1 .0, r .restore-page .ensures .1, one-le (isTaken (a .magic) i (copyAt f (l .loop .k)) (pageAt i (l .loop .pages))))
+
 loop-again : tie.Need-loop-again Inv-loop μ-loop
 loop-again c =
     let r = c .before .before in
@@ -62,9 +72,6 @@ returns c =
       l .loop .inv .1 ∙ ap (λ (k : ℕ). repairedBy (a .magic) (a .file .now) k (a .pages .now) n 0) e,
       l .loop .inv .2 ∙ ap (λ (k : ℕ). restoredBy (a .magic) (a .file .now) k (a .pages .now) n 0) e,
     )
-
-add-restored : tie.Need-add-restored Inv-loop μ-loop
-add-restored c = ?
 
 pub restore-spec : {M : Type 1} → statement M
 restore-spec =
