@@ -231,7 +231,14 @@ pub extern "C" fn lq_doublewrite_read(file: &[u8], pages: u64, out: &mut [u64])
     ensures { λ _. ⌜ now (out .exit) ≡ given (contentsNumbers (contentsOf (now (file .entry)) pages)) (now (out .entry)) ⌝ }
 {
     let contents = doublewrite::read(file, pages as usize);
-    give(&[contents.verdict.number, contents.verdict.place, contents.slots], out);
+    give(
+        &[
+            contents.verdict.number,
+            contents.verdict.place,
+            contents.slots,
+        ],
+        out,
+    );
 }
 
 // The page that a slot of a double-write file names.
@@ -250,22 +257,31 @@ pub extern "C" fn lq_repair(magic: u64, pages: &mut [u8], file: &[u8], out: &mut
     ensures { λ _. ⌜ now (pages .exit) ≡ pagesAfter magic (now (pages .entry)) (now (file .entry)) ⌝ }
 {
     let restored = doublewrite::repair(magic, pages, file);
-    give(&[restored.verdict.number, restored.verdict.place, restored.count], out);
+    give(
+        &[
+            restored.verdict.number,
+            restored.verdict.place,
+            restored.count,
+        ],
+        out,
+    );
 }
 
 // Writes the double-write file of a list of pages: number, place and length.
 #[no_mangle]
-pub extern "C" fn lq_doublewrite_write(
-    pages: &[u8],
-    list: &[u64],
-    area: &mut [u8],
-    out: &mut [u64],
-)
+pub extern "C" fn lq_doublewrite_write(pages: &[u8], list: &[u64], area: &mut [u8], out: &mut [u64])
     ensures { λ _. ⌜ now (out .exit) ≡ given (writtenNumbers (writtenOf (now (pages .entry)) (now (list .entry)) (now (area .entry)))) (now (out .entry)) ⌝ }
     ensures { λ _. ⌜ now (area .exit) ≡ areaAfter (now (pages .entry)) (now (list .entry)) (now (area .entry)) ⌝ }
 {
     let written = doublewrite::write(pages, list, area);
-    give(&[written.verdict.number, written.verdict.place, written.length as u64], out);
+    give(
+        &[
+            written.verdict.number,
+            written.verdict.place,
+            written.length as u64,
+        ],
+        out,
+    );
 }
 
 // The numbers of an answer.

@@ -124,7 +124,6 @@ module _ (magic i : ℕ) where
     pub length-page : length p ≡ pageBytes → length (repairedPage magic i c p) ≡ pageBytes
     length-page h = page-cases (λ q. length q ≡ pageBytes) (λ e. h) (λ e. taken-good e .size)
 
-
   -- repaired twice is repaired once
   pub page-twice : (c p : List ℕ) → repairedPage magic i c (repairedPage magic i c p) ≡ repairedPage magic i c p
   page-twice c p =

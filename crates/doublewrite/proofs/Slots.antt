@@ -95,7 +95,7 @@ module _ (magic : ℕ) (f : List ℕ) (k : ℕ) (s : List ℕ) (x : ℕ) (is : x
       let lv : length v ≡ pagesIn s * pageBytes = ap length e ∙ length-paste w (x * pageBytes) q pageBytes (omega arith) (omega arith) ∙ lw in
       rw (add-one k)
       (same-pages (pagesIn s) v (repairedBy magic f (suc k) s (pagesIn s) 0) lv (length-by magic f (suc k) s) (λ i h.
-          ap (pageAt i) e ∙ each w ew lw q lq refl i h ∙ sym (page-by magic f (suc k) s i h)))
+      ap (pageAt i) e ∙ each w ew lw q lq refl i h ∙ sym (page-by magic f (suc k) s i h)))
     where
       each : (w : List ℕ) → w ≡ repairedBy magic f k s (pagesIn s) 0 → length w ≡ pagesIn s * pageBytes → (q : List ℕ) → length q ≡ pageBytes
           → q ≡ repairedPage magic x (copyAt f k) (pageAt x s) → (i : ℕ) → i < pagesIn s
