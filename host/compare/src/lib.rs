@@ -2,6 +2,7 @@
 //! lent byte compared. The tests run it over thousands of seeds, `lumbraquay replay` over one.
 
 mod check;
+mod doublewrite;
 mod lent;
 mod limits;
 mod log;

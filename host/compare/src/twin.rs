@@ -69,6 +69,30 @@ pub fn free_map(of: oracle::FreeMap) -> library::FreeMap {
     }
 }
 
+pub fn contents(of: oracle::Contents) -> library::Contents {
+    library::Contents {
+        number: of.number,
+        place: of.place,
+        slots: of.slots,
+    }
+}
+
+pub fn repair(of: oracle::Repair) -> library::Repair {
+    library::Repair {
+        number: of.number,
+        place: of.place,
+        restored: of.restored,
+    }
+}
+
+pub fn written(of: oracle::Written) -> library::Written {
+    library::Written {
+        number: of.number,
+        place: of.place,
+        length: of.length,
+    }
+}
+
 /// A step that found an entry, with the place it leads to.
 fn entry(next: u64, of: oracle::EntryFields) -> library::Step {
     library::Step {

@@ -2,6 +2,7 @@
 //! histories, mutations that aim at every refusal, and plain nonsense.
 
 mod case;
+mod doublewrite;
 mod draft;
 mod entry;
 mod history;
@@ -18,6 +19,7 @@ mod style;
 mod wild;
 
 pub use case::{case, mutated_by, Case, Earlier, Honest};
+pub use doublewrite::{doublewrite_file, file_kinds, page_list, torn, DoublewriteFile, Torn};
 pub use draft::{Draft, Standing};
 pub use entry::{log_header, Entry};
 pub use entry::{BEGIN, CHECKPOINT, COMMIT, DELETE, INSERT, ROLLBACK, UPDATE};

@@ -27,7 +27,7 @@ macro_rules! refusals {
     ($($number:literal $name:ident $place:ident $when:literal;)+) => {
         $(pub const $name: u64 = $number;)+
 
-        /// Every refusal, by number from 1 on.
+        /// Every refusal, by rising number.
         pub const REFUSALS: &[Refusal] = &[$(Refusal {
             number: $number,
             name: stringify!($name),

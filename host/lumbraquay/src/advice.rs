@@ -6,6 +6,7 @@ use library::{Verdict, PAGE_BYTES};
 use crate::args::Parsed;
 use crate::failure::Failure;
 use crate::fault;
+use crate::files::{is_standard, with_ending};
 use crate::found::{after_damage, found, is_page_file, is_swapped, After};
 use crate::input::{head_fields, Log, Read};
 use crate::json::Json;
@@ -101,17 +102,39 @@ fn advice(verdict: Verdict, read: Read) -> String {
             "{general}; by its length it may be a page file: PAGES comes first, then LOG"
         );
     }
-    match read.log.and_then(|log| until(verdict, log)) {
+    let more = match verdict.number {
+        refusal::ENTRY_DAMAGED => read.log.and_then(|log| until(verdict, log)),
+        refusal::PAGE_CHECKSUM => copies(read),
+        refusal::DOUBLEWRITE_PAGES if read.list.is_some() => {
+            return "name pages that are there, each once, the lower ones first".to_string();
+        }
+        _ => None,
+    };
+    match more {
         Some(more) => format!("{general}; {more}"),
         None => general.to_string(),
     }
 }
 
-/// How to go on with the log before a damaged entry, and what that leaves out.
-fn until(verdict: Verdict, log: &Log) -> Option<String> {
-    if verdict.number != refusal::ENTRY_DAMAGED {
+/// What a double-write file has for a torn page: one that was taken, or one beside the pages.
+fn copies(read: Read) -> Option<String> {
+    let pages = read.pages?;
+    if let Some(file) = read.doublewrite {
+        let file = file.path.display();
+        return Some(format!("{file} has no good copy of it"));
+    }
+    let beside = with_ending(&pages.path, ".dw");
+    if is_standard(&pages.path) || !beside.is_file() {
         return None;
     }
+    let beside = beside.display();
+    Some(format!(
+        "{beside} lies beside the pages: `recover` with --dw {beside} restores torn pages from it before it recovers, and `repair` restores them alone"
+    ))
+}
+
+/// How to go on with the log before a damaged entry, and what that leaves out.
+fn until(verdict: Verdict, log: &Log) -> Option<String> {
     let After { zeros, next, bytes } = after_damage(log, verdict.place)?;
     let left_out = match next {
         _ if zeros => format!("the {bytes} zero bytes"),
@@ -147,6 +170,10 @@ fn general(number: u64) -> &'static str {
         refusal::MAP_SHORT => "lend a longer map",
         refusal::PAGE_ID => "another page stands here: see that the file was copied whole and in order, or put the page back from a backup or the double-write file; `verify --all` lists every bad page",
         refusal::PAGE_CHECKSUM => "the page is torn or damaged: put it back from a backup or the double-write file; `verify --all` lists every bad page",
+        refusal::DOUBLEWRITE_HEADER => "see that this is the double-write file of these pages, and that it was copied whole; if the power failed while it was being written, the pages had not been touched yet: `verify` tells whether they are good without it",
+        refusal::DOUBLEWRITE_CHECKSUM | refusal::DOUBLEWRITE_MARK => "nothing is taken from the file as it stands: copy it again from its disk; if the power failed while it was being written, the pages had not been touched yet: `verify` tells whether they are good without it",
+        refusal::DOUBLEWRITE_PAGES => "see that this file is of these pages, and that the page file was not cut short",
+        refusal::DOUBLEWRITE_SHORT => "lend a longer area",
         refusal::PAGE_SLOTS => "the body's checksum is right, so the page was written like this or its header, which has no checksum, is damaged: put it back from a backup or the double-write file; `verify --all` lists every bad page",
         _ => "use a version of this command that fits the library",
     }

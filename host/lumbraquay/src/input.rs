@@ -5,6 +5,7 @@ use std::path::PathBuf;
 use library::{Verdict, LOG_HEAD_BYTES, LOG_LIMIT_BYTES, PAGE_BYTES, PAGE_LIMIT};
 
 use crate::args::Parsed;
+use crate::doublewrite::Doublewrite;
 use crate::failure::Failure;
 use crate::files::{self, Seen, Whole};
 use crate::held::Held;
@@ -19,6 +20,8 @@ pub struct Pages {
     pub magic: u64,
     magic_given: bool,
     pub seen: Seen,
+    /// The bytes as they were read, where a repair has made others of them.
+    unrepaired: Option<Vec<u8>>,
 }
 
 impl Pages {
@@ -55,7 +58,18 @@ impl Pages {
             bytes,
             length,
             seen,
+            unrepaired: None,
         })
+    }
+
+    /// Goes on with the bytes that a repair made.
+    pub fn repair(&mut self, new: Vec<u8>) {
+        self.unrepaired = Some(std::mem::replace(&mut self.bytes, new));
+    }
+
+    /// The bytes that the file holds.
+    pub fn as_read(&self) -> &[u8] {
+        self.unrepaired.as_ref().unwrap_or(&self.bytes)
     }
 
     pub fn count(&self) -> usize {
@@ -164,6 +178,9 @@ pub struct Read<'a> {
     pub pages: Option<&'a Pages>,
     pub log: Option<&'a Log>,
     pub floor: u64,
+    pub doublewrite: Option<&'a Doublewrite>,
+    /// The pages that a double-write file was to have.
+    pub list: Option<&'a [u64]>,
 }
 
 impl<'a> Read<'a> {
@@ -172,6 +189,8 @@ impl<'a> Read<'a> {
             pages: Some(pages),
             log: None,
             floor: 0,
+            doublewrite: None,
+            list: None,
         }
     }
 
@@ -180,6 +199,8 @@ impl<'a> Read<'a> {
             pages: None,
             log: Some(log),
             floor: 0,
+            doublewrite: None,
+            list: None,
         }
     }
 
@@ -188,6 +209,22 @@ impl<'a> Read<'a> {
             pages: Some(pages),
             log: Some(log),
             floor,
+            doublewrite: None,
+            list: None,
+        }
+    }
+
+    pub fn with(self, doublewrite: &'a Doublewrite) -> Read<'a> {
+        Read {
+            doublewrite: Some(doublewrite),
+            ..self
+        }
+    }
+
+    pub fn listing(self, list: &'a [u64]) -> Read<'a> {
+        Read {
+            list: Some(list),
+            ..self
         }
     }
 }
@@ -208,6 +245,7 @@ impl Read<'_> {
     pub fn fields(&self) -> Vec<(&'static str, Json)> {
         let mut fields = self.pages.map_or(Vec::new(), Pages::fields);
         fields.extend(self.log.map_or(Vec::new(), Log::fields));
+        fields.extend(self.doublewrite.map_or(Vec::new(), Doublewrite::fields));
         fields
     }
 }

@@ -3,7 +3,7 @@
 use std::path::{Path, PathBuf};
 use std::process::Command;
 
-use library::refusal::REFUSALS;
+use library::refusal::{refusal, REFUSALS};
 
 fn repository() -> PathBuf {
     Path::new(env!("CARGO_MANIFEST_DIR")).join("../..")
@@ -42,11 +42,13 @@ fn call_as(compiler: &str, flags: &[&str]) {
     assert!(ran.status.success(), "{}: {said}", ran.status);
 
     let mut expected = String::from("0 DONE: done\n");
-    for it in REFUSALS {
-        expected += &format!("{} {}: {}\n", it.number, it.name, it.when);
+    let last = REFUSALS.last().expect("a refusal").number;
+    for number in 1..=last + 1 {
+        expected += &match refusal(number) {
+            Some(it) => format!("{number} {}: {}\n", it.name, it.when),
+            None => format!("{number} UNKNOWN: no refusal of this version has this number\n"),
+        };
     }
-    let next = REFUSALS.len() + 1;
-    expected += &format!("{next} UNKNOWN: no refusal of this version has this number\n");
     assert_eq!(String::from_utf8_lossy(&ran.stdout), expected);
 }
 

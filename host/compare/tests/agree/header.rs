@@ -4,7 +4,8 @@
 use std::collections::BTreeMap;
 
 use library::refusal::{DONE, REFUSALS};
-use library::{Answer, FreeMap, Listed, Listing, Record, Row, Step, Verdict, Visible};
+use library::{Answer, Contents, FreeMap, Listed, Listing, Record, Repair, Row, Step, Verdict};
+use library::{Visible, Written};
 
 const HEADER: &str = include_str!("../../../../include/lumbraquay.h");
 const CODE: &str = include_str!("../../../../crates/refusals/src/lib.rt");
@@ -58,6 +59,7 @@ fn names_and_numbers_are_the_same() {
         ("FROM_NOWHERE", library::FROM_NOWHERE),
         ("FROM_LOG", library::FROM_LOG),
         ("FROM_PAGES", library::FROM_PAGES),
+        ("DOUBLEWRITE_SLOT_BYTES", library::DOUBLEWRITE_SLOT_BYTES as u64),
         ("DONE", DONE),
     ]
     .map(|(name, number)| (name.to_string(), number))
@@ -78,14 +80,15 @@ fn names_and_numbers_are_the_same() {
         ("LIST_VISIBLE", &Listing::NAMES),
         ("ROW", &Listed::NAMES),
         ("FREE_MAP", &FreeMap::NAMES),
+        ("DOUBLEWRITE_READ", &Contents::NAMES),
+        ("REPAIR", &Repair::NAMES),
+        ("DOUBLEWRITE_WRITE", &Written::NAMES),
     ] {
         expected.extend(indices(answer, names));
     }
     assert_eq!(constants(), expected);
     assert_eq!(library::version(), library::VERSION);
-    assert!((1..)
-        .zip(REFUSALS)
-        .all(|(number, refusal)| refusal.number == number));
+    assert!(REFUSALS.is_sorted_by(|one, next| one.number < next.number));
 }
 
 /// `noDataPage` for `NO_DATA_PAGE`.

@@ -6,7 +6,7 @@ use std::sync::OnceLock;
 use std::time::Instant;
 
 use compare::{sweep, Seen};
-use generate::mutations;
+use generate::{file_kinds, mutations};
 use library::refusal::REFUSALS;
 
 use crate::{assert_no_differences, tell};
@@ -14,7 +14,7 @@ use crate::{assert_no_differences, tell};
 const SEEDS: Range<u64> = 0..20_000;
 
 /// The calls that refuse by the paper's numbers.
-const REFUSING: [&str; 8] = [
+const REFUSING: [&str; 11] = [
     "recover",
     "read_row",
     "verify",
@@ -23,6 +23,20 @@ const REFUSING: [&str; 8] = [
     "list_visible",
     "free_map",
     "log_open",
+    "doublewrite_read",
+    "repair",
+    "doublewrite_write",
+];
+
+/// Those that refuse pages which are not good.
+const OVER_PAGES: [&str; 7] = [
+    "recover",
+    "read_row",
+    "verify",
+    "verify_from",
+    "next_visible",
+    "list_visible",
+    "free_map",
 ];
 
 /// One sweep over all seeds, which the tests below look at.
@@ -44,18 +58,18 @@ fn seen() -> &'static Seen {
 
 /// How often each call gave each number, and what else was counted.
 fn counts(seen: &Seen) -> String {
-    let mut text = format!("{:>22}", "number");
+    let mut text = format!("{:>24}", "number");
     for entry in REFUSING {
-        text += &format!("{entry:>14}");
+        text += &format!("{entry:>18}");
     }
     let done = (0, "done");
     for (number, name) in [done]
         .into_iter()
         .chain(REFUSALS.iter().map(|it| (it.number, it.name)))
     {
-        text += &format!("\n{number:>2} {name:>19}");
+        text += &format!("\n{number:>2} {name:>21}");
         for entry in REFUSING {
-            text += &format!("{:>14}", seen.times(entry, number));
+            text += &format!("{:>18}", seen.times(entry, number));
         }
     }
     for (event, times) in &seen.events {
@@ -118,7 +132,7 @@ fn honest_histories_end_as_their_ledgers_say() {
 fn page_faults_are_told_apart() {
     let seen = seen();
     assert_no_differences(seen);
-    for entry in REFUSING.iter().filter(|it| **it != "log_open") {
+    for entry in OVER_PAGES {
         for number in [11, 17, 18, 19] {
             let times = seen.times(entry, number);
             assert!(times > 50, "{entry} gave {number} {times} times");
@@ -152,4 +166,40 @@ fn spoiled_inputs_reach_every_refusal() {
         assert!(seen.kinds.contains_key(mutation.name), "{}", mutation.name);
     }
     assert_often(seen, &[("aim", 5_000)]);
+}
+
+/// Every way to spoil a double-write file is refused as it must be; copies are taken exactly where they are to be; a repair
+/// stopped anywhere and repeated, and the recovery after it, end in the same bytes.
+#[test]
+fn torn_pages_are_repaired() {
+    let seen = seen();
+    assert_no_differences(seen);
+    for kind in file_kinds() {
+        assert_often(seen, &[(kind, 100)]);
+    }
+    for (entry, numbers) in [
+        ("doublewrite_read", &[0, 1, 22, 23, 24, 25][..]),
+        ("repair", &[0, 1, 22, 23, 24, 25]),
+        ("doublewrite_write", &[0, 1, 25, 26]),
+    ] {
+        for &number in numbers {
+            let times = seen.times(entry, number);
+            assert!(times > 50, "{entry} gave {number} {times} times");
+        }
+    }
+    assert_often(
+        seen,
+        &[
+            ("repaired", 5_000),
+            ("copy taken", 5_000),
+            ("copy that is not good", 500),
+            ("torn page without a copy", 500),
+            ("page at fault with a right checksum", 500),
+            ("repair stopped between pages", 2_000),
+            ("recovered after a repair", 1_000),
+            ("ledger after a repair", 1_000),
+            ("stopped in repair and recovery", 500),
+            ("file written", 2_000),
+        ],
+    );
 }

@@ -1,10 +1,12 @@
 //! The commands, one file each.
 
 mod demo;
+mod doublewrite;
 mod freemap;
 mod log;
 mod pages;
 mod recover;
+mod repair;
 mod replay;
 mod report;
 mod row;
@@ -23,12 +25,14 @@ use crate::output::Output;
 pub const ALL: &[Command] = &[
     demo::COMMAND,
     recover::COMMAND,
+    repair::COMMAND,
     verify::COMMAND,
     log::COMMAND,
     pages::COMMAND,
     rows::COMMAND,
     row::COMMAND,
     freemap::COMMAND,
+    doublewrite::COMMAND,
     report::COMMAND,
     replay::COMMAND,
 ];
