@@ -58,11 +58,11 @@ module _ (P f : List ℕ) (ok : repairVerdict P f .number ≡ 0) where
 copy-bytes : (f : List ℕ) → Bytes f → (i k : ℕ) → Bytes (copyIn f i k)
 unfolding copyIn
 copy-bytes f b i zero = bytes-nil
-copy-bytes f b i (suc k) = go (eqb (idAt f k) i)
+copy-bytes f b i (suc k) = go (eqb (idAt f k) i) (copy-bytes f b i k)
   where
-    go : (t : Bool) → Bytes (pick t (copyAt f k) (copyIn f i k))
-    go true = bytes-take pageBytes (bytes-drop (slotPlace k + 8) b)
-    go false = copy-bytes f b i k
+    go : (t : Bool) → Bytes (copyIn f i k) → Bytes (pick t (copyAt f k) (copyIn f i k))
+    go true c = bytes-take pageBytes (bytes-drop (slotPlace k + 8) b)
+    go false c = c
 
 pub repaired-bytes : (magic : ℕ) (f s : List ℕ) → Bytes f → Bytes s → (k n i : ℕ) → Bytes (repairedBy magic f k s n i)
 unfolding repairedBy

@@ -104,7 +104,8 @@ demand3-repaired h =
           exact magic floor moment P f c table s (pagesAfter magic P f) e felt ok i k l d;
       repeats = λ magic floor₁ floor P f c₁ c₂ T₁ T₂ T₃ bP bf bL le t₁ t₃ v ok Q m.
           let w : repairVerdict Q f .number ≡ 0 = repair-again P f v Q (m .size) in
-          (w, repeats magic floor₁ floor P f c₁ c₂ T₁ T₂ T₃ bP bf bL le t₁ t₃ (repair-whole P f v) (pagesAfter magic P f) (after-repair P f v magic) ok Q m (pagesAfter magic Q f) (after-repair Q f w magic));
+          let r = repeats magic floor₁ floor P f c₁ c₂ T₁ T₂ T₃ bP bf bL le t₁ t₃ (repair-whole P f v) (pagesAfter magic P f) (after-repair P f v magic) ok Q m (pagesAfter magic Q f) (after-repair Q f w magic) in
+          (w, r .0, r .1);
     }
   where
     exact : (magic floor : ℕ) (moment : ℕ → ℕ) (P f : List ℕ) (c : ℕ) (table : List Record) → StandsRepaired h moment magic P f

@@ -69,7 +69,7 @@ module _ (p : List ℕ) (long : length p ≡ pageBytes) where
     where
       differs : (n : ℕ) → other n ≡ n → ⊥
       differs zero e = omega arith
-      differs (suc n) e = omega (arith, ap (λ (b : Bool). pick b 1 0) (ne-eqb (suc n) 0 (λ z. omega arith)))
+      differs (suc n) e = omega (arith, ap {B = ℕ} (λ (b : Bool). pick b 1 0) (ne-eqb (suc n) 0 (λ z. omega arith)))
 
 -- ---- the pages
 
@@ -157,13 +157,13 @@ pub stands-repaired : StandsRepaired example moment magic tornPages file
 stands-repaired = record { copy = λ i l. copy i (omega (arith, lent-two)); own = λ i l. own i (omega (arith, lent-two)) }
   where
     copy : (i : ℕ) → i < 2 → isTaken magic i (copyOf file i) (pageAt i tornPages) ≡ true → StandsAt example (moment i) i (copyOf file i)
-    copy zero l t = absurd (omega (arith, ap (λ (b : Bool). pick b 1 0) (sym kept ∙ t)))
+    copy zero l t = absurd (omega (arith, ap {B = ℕ} (λ (b : Bool). pick b 1 0) (sym kept ∙ t)))
     copy (suc zero) l t = rw copy-1 (stands-at 1 l)
     copy (suc (suc i)) l t = absurd (omega arith)
 
     own : (i : ℕ) → i < 2 → isTaken magic i (copyOf file i) (pageAt i tornPages) ≡ false → StandsAt example (moment i) i (pageAt i tornPages)
     own zero l t = rw lent-0 (stands-at 0 l)
-    own (suc zero) l t = absurd (omega (arith, ap (λ (b : Bool). pick b 1 0) (sym t ∙ taken)))
+    own (suc zero) l t = absurd (omega (arith, ap {B = ℕ} (λ (b : Bool). pick b 1 0) (sym t ∙ taken)))
     own (suc (suc i)) l t = absurd (omega arith)
 
 pub felt-repaired : HasFelt example moment (pagesAfter magic tornPages file) cut

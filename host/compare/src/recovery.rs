@@ -3,7 +3,7 @@
 
 use generate::{ledger, tuples_on, Case};
 use library::{Answer, RECORD_NUMBERS};
-use oracle::{Record, PAGE_BYTES};
+use oracle::Record;
 
 use crate::check::Subject;
 use crate::lent::{mixture, Lent};

@@ -1,9 +1,10 @@
 //! A double-write file, and the repair of torn pages from it.
 
+use std::collections::BTreeSet;
 use std::path::{Path, PathBuf};
 
 use library::refusal;
-use library::{Contents, Repair, Verdict, DOUBLEWRITE_FRAME_BYTES, PAGE_BYTES};
+use library::{Repair, Verdict, DOUBLEWRITE_FRAME_BYTES, DOUBLEWRITE_SLOT_BYTES, PAGE_BYTES};
 
 use crate::failure::Failure;
 use crate::fault;
@@ -77,7 +78,7 @@ impl Doublewrite {
         let length = self.bytes.len();
         let start = &self.bytes[..length.min(NAME.len())];
         let slots = self.number(12);
-        let asked = u64::from(slots) * library::DOUBLEWRITE_SLOT_BYTES as u64
+        let asked = u64::from(slots) * DOUBLEWRITE_SLOT_BYTES as u64
             + DOUBLEWRITE_FRAME_BYTES as u64;
         if length < DOUBLEWRITE_FRAME_BYTES {
             return format!("{length} bytes, which should be {DOUBLEWRITE_FRAME_BYTES} or more");
@@ -116,21 +117,14 @@ impl Doublewrite {
     }
 }
 
-/// Why a torn page was not restored.
-#[derive(Clone, Copy)]
-enum Why {
-    NoCopy,
-    /// What its copy is refused by.
-    BadCopy(u64),
-}
-
 /// Pages that were repaired.
 pub struct Repaired {
     pub file: Doublewrite,
     pub answer: Repair,
     slots: u64,
     restored: Vec<u64>,
-    left: Vec<(u64, Why)>,
+    /// The pages that are still torn, each with what its copy is refused by if it has one.
+    left: Vec<(u64, Option<u64>)>,
 }
 
 impl Repaired {
@@ -148,34 +142,41 @@ impl Repaired {
             left: Vec::new(),
         };
         if answer.number == refusal::DONE {
-            let Contents { slots, .. } =
-                library::doublewrite_read(&repaired.file.bytes, pages.count() as u64);
-            repaired.slots = slots;
-            repaired.look(pages, &new);
+            let lent = pages.count() as u64;
+            repaired.slots = library::doublewrite_read(&repaired.file.bytes, lent).slots;
+            repaired.look(pages, &new)?;
             pages.repair(new);
         }
         Ok(repaired)
     }
 
     /// Finds the pages that were restored, and those that are still torn.
-    fn look(&mut self, pages: &Pages, new: &[u8]) {
-        let mut copies = vec![None; pages.count()];
-        for (slot, page) in (0..self.slots as usize).zip(self.file.named(self.slots)) {
-            let at = HEADER_BYTES + slot * library::DOUBLEWRITE_SLOT_BYTES + 8;
-            copies[page as usize] = Some(&self.file.bytes[at..][..PAGE_BYTES]);
-        }
+    fn look(&mut self, pages: &Pages, new: &[u8]) -> Result<(), Failure> {
         let both = pages.bytes.chunks(PAGE_BYTES).zip(new.chunks(PAGE_BYTES));
-        for ((index, copy), (old, new)) in (0u64..).zip(copies).zip(both) {
+        let mut torn = BTreeSet::new();
+        for (index, (old, new)) in (0u64..).zip(both) {
             if old != new {
                 self.restored.push(index);
             } else if fault::is_torn(new) {
-                let why = match copy {
-                    Some(copy) => Why::BadCopy(fault::of_copy(pages.magic, index, copy)),
-                    None => Why::NoCopy,
-                };
-                self.left.push((index, why));
+                torn.insert(index);
             }
         }
+        // What each copy that was not taken is refused by in the place of its page.
+        let mut copies = memory::room(new.len())?;
+        copies.extend_from_slice(new);
+        let mut copied = BTreeSet::new();
+        for (slot, page) in (0..self.slots as usize).zip(self.file.named(self.slots)) {
+            if torn.contains(&page) {
+                let at = HEADER_BYTES + slot * DOUBLEWRITE_SLOT_BYTES + 8;
+                let copy = &self.file.bytes[at..][..PAGE_BYTES];
+                copies[page as usize * PAGE_BYTES..][..PAGE_BYTES].copy_from_slice(copy);
+                copied.insert(page);
+            }
+        }
+        let refused = |page| library::verify_from(pages.magic, &copies, page).number;
+        let why = |page: u64| copied.contains(&page).then(|| refused(page));
+        self.left = torn.iter().map(|page| (*page, why(*page))).collect();
+        Ok(())
     }
 
     pub fn tell(&self, output: &mut Output) -> Result<(), Failure> {
@@ -194,12 +195,10 @@ impl Repaired {
                 show::ranges(&self.restored)
             ))?,
         }
-        for (page, why) in &self.left {
-            let why = match why {
-                Why::NoCopy => "the file has no copy of it".to_string(),
-                Why::BadCopy(number) => {
-                    format!("its copy is not good, by {number} {}", refusal_name(*number))
-                }
+        for (page, refused) in &self.left {
+            let why = match refused {
+                None => "the file has no copy of it".to_string(),
+                Some(number) => format!("its copy is not good, by {number} {}", name(*number)),
             };
             output.line(format_args!("  still torn:   page {page}: {why}"))?;
         }
@@ -207,12 +206,9 @@ impl Repaired {
     }
 
     pub fn fields(&self) -> Vec<(&'static str, Json)> {
-        let left = self.left.iter().map(|(page, why)| {
-            let copy = match why {
-                Why::NoCopy => Json::Null,
-                Why::BadCopy(number) => (*number).into(),
-            };
-            Json::Object(vec![("page", (*page).into()), ("copy_refused_by", copy)])
+        let left = self.left.iter().map(|(page, refused)| {
+            let refused = refused.map_or(Json::Null, Json::from);
+            Json::Object(vec![("page", (*page).into()), ("copy_refused_by", refused)])
         });
         let restored = self.restored.iter().map(|page| Json::from(*page));
         let mut fields = self.file.fields();
@@ -226,6 +222,6 @@ impl Repaired {
     }
 }
 
-fn refusal_name(number: u64) -> &'static str {
+fn name(number: u64) -> &'static str {
     refusal::refusal(number).map_or("unknown", |refusal| refusal.name)
 }

@@ -113,13 +113,6 @@ pub fn is_torn(page: &[u8]) -> bool {
     checksum(page) != sum(page)
 }
 
-/// What a copy is refused by as the page at an index: the page is lent at its index, behind pages that are not looked at.
-pub fn of_copy(magic: u64, index: u64, copy: &[u8]) -> u64 {
-    let mut area = vec![0; index as usize * PAGE_BYTES];
-    area.extend_from_slice(copy);
-    library::verify_from(magic, &area, index).number
-}
-
 /// What each bad page is refused by: each is looked for behind the one before.
 pub fn bad_pages(pages: &Pages) -> impl Iterator<Item = (u64, Verdict)> + '_ {
     let mut first = 0;

@@ -5,7 +5,9 @@ use library::{Answer, Record, LOG_HEAD_BYTES, PAGE_BYTES, RECORD_NUMBERS, SHORTE
 
 use crate::args::Parsed;
 use crate::changes::{changes, Change};
+use crate::doublewrite::Repaired;
 use crate::failure::Failure;
+use crate::files::Seen;
 use crate::input::{Log, Pages, Read};
 use crate::json::Json;
 use crate::memory;

@@ -19,12 +19,6 @@ pub const IN_PLACE: Choice = Choice::flag(
 );
 pub const DRY_RUN: Choice = Choice::flag("--dry-run", "write nothing");
 
-/// What is said of both ways to write.
-pub const SAFELY: &str = "The new file is written under another name in the same directory, synced and renamed, so it is never seen half-written.\n\
-     A run that was broken off may be repeated.";
-pub const ALONE: &str = "--in-place takes the lock of PAGES (flock) and stops, with all as it was, if another process holds it, has PAGES open for\n\
-     writing, or changes a file that was read before the end. Owner, rights, extended attributes and access lists are kept.";
-
 /// Where the bytes go.
 pub enum Target {
     New(PathBuf),

@@ -22,7 +22,7 @@ pub const COMMAND: Command = Command {
         FORCE,
         IN_PLACE,
         DRY_RUN,
-        Choice::value("--dw", "FILE.dw", "restore torn pages from this double-write file first, as `repair` does"),
+        Choice::value("--dw", "FILE", "restore torn pages from this double-write file first, as `repair` does"),
         MAGIC,
         FLOOR,
         LOG_UNTIL,

@@ -2,8 +2,19 @@
 
 use crate::sandbox::Sandbox;
 
-const COMMANDS: [&str; 10] = [
-    "demo", "recover", "verify", "log", "pages", "rows", "row", "freemap", "report", "replay",
+pub const COMMANDS: [&str; 12] = [
+    "demo",
+    "recover",
+    "repair",
+    "verify",
+    "log",
+    "pages",
+    "rows",
+    "row",
+    "freemap",
+    "doublewrite",
+    "report",
+    "replay",
 ];
 
 #[test]
@@ -31,6 +42,7 @@ fn every_command_has_help_and_json() {
         "--out",
         "--in-place",
         "--dry-run",
+        "--dw",
         "--force",
         "--magic",
         "--floor",
@@ -101,6 +113,10 @@ fn wrong_words_are_told() {
             "SLOT is '65536', not a number up to 65535",
         ),
         ("replay", "SEED is missing"),
+        (
+            "repair outage.pages",
+            "FILE.dw is missing: the double-write file",
+        ),
         (
             "replay 1 --count 2 --all",
             "--count goes with none of --all, --dir and --force",
