@@ -113,7 +113,7 @@ honest = (
   ),
 )
 
-pub example : History
+unfoldable pub example : History
 example = record { pages = before; steps = steps; log = log; honest = honest; inLog = entries-log (whole ++ (begins 9 10 ∷ [])) all-encodable }
 
 -- ---- the pages stand at their moments

@@ -130,6 +130,10 @@ module _ (s l : List ℕ) (lent : Lent s l) where
           let b : Bytes name = rw name-bytes at (bytes-of 8 0x5257_4C42_444D_5841) in
           bytes-append (bytes-append b (bytes-append (bytes-of 4 1) (bytes-of 4 (length l)))) (slots-bytes l)
 
+      pub file-bytes : Bytes (fileOf s l)
+      unfolding fileOf footerOf
+      file-bytes = bytes-append front-bytes (bytes-append (bytes-of 4 (crc32c (frontOf s l))) (bytes-of 4 mark))
+
       sum-number : numberAt 4 (slotPlace (length l)) F ≡ crc32c (frontOf s l)
       unfolding numberAt footerOf
       sum-number =

@@ -14,11 +14,11 @@ use Rattle.endian.specs.Pick.{pick}
 use Rattle.endian.specs.Numbers.{Bytes, bytesOf, numberAt}
 use Rattle.endian.proofs.Numbers.{length-bytesOf}
 use Rattle.endian.proofs.Places.{number-stored}
-use Rattle.endian.proofs.Bytes.{bytes-append, bytes-nil, bytes-zeros, bytes-of, bytes-take, bytes-drop}
+use Rattle.endian.proofs.Bytes.{bytes-append, bytes-cons, bytes-nil, bytes-zeros, bytes-of, bytes-take, bytes-drop, bytes}
 use Rattle.crc32c.specs.Crc.{crc32c}
 use Rattle.refusals.specs.Verdict.{accepted}
 use Rattle.refusals.specs.declared.Verdict.{Verdict}
-use Rattle.page.specs.Layout.{pageBytes, dataType, pagesIn, pageAt, typeOf, crcOf, bodyOf}
+use Rattle.page.specs.Layout.{pageBytes, dataType, pagesIn, pageAt, typeOf, crcOf, bodyOf, slotAt}
 use Rattle.page.specs.Good.{Good}
 use Rattle.page.specs.Fault.{sizeWrong}
 use Rattle.page.proofs.Areas.{page-first, page-later, same-pages}
@@ -28,19 +28,25 @@ use Rattle.doublewrite.specs.File.{fileVerdict}
 use Rattle.doublewrite.specs.Repair.{copyOf, isTorn, isTaken, repairedPage, repaired, repairVerdict, pagesAfter}
 use Rattle.doublewrite.specs.Write.{fileOf, rises}
 use Rattle.doublewrite.proofs.Repairing.{copy-good, good-whole, good-taken, whole-stays, page-kept, page-restored}
-use Rattle.doublewrite.proofs.ReadBack.{written-read}
+use Rattle.doublewrite.proofs.Listed.{rise-each}
+use Rattle.doublewrite.proofs.ReadBack.{written-read, file-bytes}
 use Rattle.doublewrite.proofs.Laws.{pagewise, length-repaired, written-copy}
 use Rattle.rules.specs.Lent.{lent}
 use Rattle.rules.specs.Recover.{recoverOf}
 use Rattle.history.specs.Demand3.{HasFelt}
-use Rattle.cases.specs.Build.{magic, page, pageOf, headOf}
+use Rattle.wal.specs.Entry.{Entry, encoded, encodedAll, unsealed, header}
+use Rattle.wal.specs.Walk.{entries}
+use Rattle.history.specs.History.{ledger}
+use Rattle.cases.specs.Build.{magic, page, pageOf, headOf, entry, key, inserts, updates, tuple}
 use Rattle.cases.specs.Starred.{a, c, noRecord}
-use Rattle.cases.specs.Example.{log, cut, moment, stood}
-use Rattle.cases.proofs.Area.{pages-in, area-whole, page-at, good-of}
+use Rattle.cases.specs.Example.{before, log, cut, moment, stood}
+use Rattle.cases.proofs.Parts.{tuple-bytes}
+use Rattle.cases.proofs.Area.{pages-in, area-whole, page-at, good-of, type-of}
 use Rattle.cases.proofs.Example.{example, stood-ok, stands, felt, ok}
 use Rattle.repaired.specs.Demand3Repaired.{StandsAt, StandsRepaired}
 use Rattle.repaired.specs.Example.{other, tear, tornPages, both, file}
 use Rattle.repaired.proofs.After.{after-repair}
+use Rattle.repaired.proofs.Demand3Repaired.{demand3-repaired}
 
 -- ---- a page with another checksum is torn
 
@@ -178,3 +184,53 @@ unfolding tornPages tear
 pages-bytes =
     let b : Bytes (pageAt 1 stood) = bytes-take pageBytes (bytes-drop (1 * pageBytes) stood-bytes) in
     bytes-append (bytes-take pageBytes (bytes-drop (0 * pageBytes) stood-bytes)) (bytes-append (bytes-append (bytes-take 12 b) (bytes-take 4 (bytes-of 4 (other (crc32c (bodyOf (pageAt 1 stood))))))) (bytes-drop 16 b))
+
+copies-bytes : Bytes file
+copies-bytes = file-bytes stood both (λ k h. rise-each 0 (pagesIn stood) both rising k h .1) (lit< tt) stood-bytes
+
+-- the log is bytes too
+entry-bytes : (e : Entry) → Bytes (e .key) → Bytes (e .old) → Bytes (e .new) → Bytes (encoded e)
+unfolding encoded unsealed
+entry-bytes e k o n = search bytes depth 16
+
+bare-bytes : (kind lsn t : ℕ) → Bytes (encoded (entry kind lsn t [] [] []))
+bare-bytes kind lsn t = entry-bytes (entry kind lsn t [] [] []) bytes-nil bytes-nil bytes-nil
+
+key-bytes : (i k : ℕ) → Bytes (key i k)
+key-bytes i k = bytes-append (bytes-of 8 i) (bytes-of 2 k)
+
+insert-bytes : (lsn t i k n : ℕ) → n < 256 → Bytes (encoded (inserts lsn t i k (tuple 29 n)))
+insert-bytes lsn t i k n h = entry-bytes (inserts lsn t i k (tuple 29 n)) (key-bytes i k) bytes-nil (tuple-bytes 29 n h)
+
+update-bytes : (lsn t i k n m : ℕ) → n < 256 → m < 256 → Bytes (encoded (updates lsn t i k (tuple 29 n) (tuple 29 m)))
+update-bytes lsn t i k n m h g =
+    entry-bytes (updates lsn t i k (tuple 29 n) (tuple 29 m)) (key-bytes i k) (bytes-append (key-bytes i k) (tuple-bytes 29 n h)) (bytes-append (key-bytes i k) (tuple-bytes 29 m g))
+
+header-bytes : Bytes header
+unfolding header
+header-bytes = bytes-append (bytes-cons (lit< tt) (bytes-cons (lit< tt) (bytes-cons (lit< tt) (bytes-cons (lit< tt) bytes-nil)))) (bytes-append (bytes-of 2 1) (bytes-zeros 26))
+
+log-bytes : Bytes log
+unfolding encodedAll
+log-bytes =
+    bytes-append header-bytes
+    (bytes-append (bare-bytes 1 1 7) (bytes-append (update-bytes 2 7 0 0 1 2 (lit< tt) (lit< tt)) (bytes-append (bare-bytes 2 3 7)
+    (bytes-append (bare-bytes 1 4 8) (bytes-append (insert-bytes 5 8 1 0 1 (lit< tt))
+    (bytes-append (bare-bytes 1 6 9) (bytes-append (update-bytes 7 9 0 0 2 3 (lit< tt) (lit< tt)) (bytes-append (insert-bytes 8 9 0 1 1 (lit< tt))
+    (bytes-append (bare-bytes 1 9 10) bytes-nil)))))))))
+
+-- ---- the theorem, of the example
+
+-- slot 0 of page 1, which is torn: what the ledger says
+pub exact-here : slotAt (pageAt 1 (recoverOf (lent magic 7 (pagesAfter magic tornPages file) (take cut log)) (replicate 8 noRecord) .pages)) 0 ≡ ledger before (entries (take cut log)) 1 0
+unfolding example
+exact-here =
+    demand3-repaired example .exact magic 7 moment tornPages file cut (replicate 8 noRecord) repairs stands-repaired felt-repaired ok-repaired 1 0 (omega (arith, lent-two))
+    (ap (λ (s : List ℕ). typeOf (pageAt 1 s)) after ∙ ap typeOf (page-at (page 7 (c ∷ []) ∷ page 5 (a ∷ []) ∷ []) stood-ok 1 (lit< tt)) ∙ type-of 1 _ (stood-ok .1 .0))
+
+-- stopped before anything was stored, and begun again
+pub repeats-here : repairVerdict tornPages file .number ≡ 0
+unfolding example
+repeats-here =
+    demand3-repaired example .repeats magic 7 7 tornPages file cut cut (replicate 8 noRecord) (replicate 8 noRecord) (replicate 8 noRecord) pages-bytes copies-bytes log-bytes (omega arith) refl refl repairs ok-repaired tornPages
+    (record { size = refl; each = λ i l. inl refl }) .0

@@ -1,6 +1,7 @@
 //! Thousands of random inputs, and what must hold of every one of them.
 
 mod common;
+mod doublewrite;
 mod honest;
 mod honesty;
 mod readers;

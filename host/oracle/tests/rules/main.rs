@@ -2,6 +2,7 @@
 
 mod common;
 mod crc;
+mod doublewrite;
 mod entry_rules;
 mod log_reader;
 mod order_and_size;
