@@ -7,8 +7,9 @@ use Rattle.endian.specs.Pick.{pick}
 use Rattle.page.specs.Layout.{pageLimit}
 use Rattle.doublewrite.specs.File.{isNamed}
 
+-- a bit for each page that may be lent
 abbrev pub markBytes : ℕ
-markBytes = 512
+markBytes = pageLimit / 8
 
 -- bit i of some bytes, the lowest of a byte first
 unfoldable pub bitAt : List ℕ → ℕ → ℕ

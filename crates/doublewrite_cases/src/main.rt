@@ -57,7 +57,7 @@ fn with(mut f: [u8; 32808], at: usize, n: u32) -> [u8; 32808] {
 // The file with n in the four bytes at a place, and its checksum anew.
 fn sealed(at: usize, n: u32) -> [u8; 32808] {
     let mut f = with(file(), at, n);
-    let c = crc32c::crc32c(&f[..32800]);
+    let c = crc32c::crc32c(&f[0..32800]);
     endian::put_u32(&mut f, 32800, c);
     f
 }
@@ -79,9 +79,9 @@ fn read(name: &[u8], f: &[u8], lent: usize) {
 
 fn header_cases() {
     read(b"as written", &file(), 2);
-    read(b"one byte short", &file()[..32807], 2);
-    read(b"a slot short", &file()[..16416], 2);
-    read(b"23 bytes", &file()[..23], 2);
+    read(b"one byte short", &file()[0..32807], 2);
+    read(b"a slot short", &file()[0..16416], 2);
+    read(b"23 bytes", &file()[0..23], 2);
     read(b"no bytes", &[], 2);
     read(b"another name", &sealed(4, 0x5257_4C43), 2);
     read(b"version 2", &sealed(8, 2), 2);
@@ -100,8 +100,16 @@ fn footer_cases() {
     read(b"checksum", &with(file(), 32800, 0), 2);
     read(b"byte of a copy", &with(file(), 5000, 1), 2);
     read(b"mark", &with(file(), 32804, 0xDEAD_BEEE), 2);
-    read(b"mark, highest byte first", &with(file(), 32804, 0xEFBE_ADDE), 2);
-    read(b"checksum and mark", &with(with(file(), 32800, 0), 32804, 0), 2);
+    read(
+        b"mark, highest byte first",
+        &with(file(), 32804, 0xEFBE_ADDE),
+        2,
+    );
+    read(
+        b"checksum and mark",
+        &with(with(file(), 32800, 0), 32804, 0),
+        2,
+    );
     read(b"mark, page not lent", &with(sealed(16, 2), 32804, 0), 2);
     read(b"page named twice", &sealed(16, 1), 2);
     read(b"page past the last", &sealed(16, 2), 2);
@@ -126,10 +134,14 @@ fn id(name: &[u8], f: &[u8], k: usize) {
 
 fn id_cases() {
     id(b"slot 1", &file(), 1);
-    id(b"slot 1 of a file with another checksum", &with(file(), 32800, 0), 1);
+    id(
+        b"slot 1 of a file with another checksum",
+        &with(file(), 32800, 0),
+        1,
+    );
     id(b"slot 2", &file(), 2);
     id(b"the last of all slots", &file(), 18446744073709551615);
-    id(b"slot 1, one byte short", &file()[..32807], 1);
+    id(b"slot 1, one byte short", &file()[0..32807], 1);
     id(b"slot 1, another id", &sealed(16408, 9), 1);
 }
 
@@ -159,13 +171,17 @@ fn copy_cases() {
     repair(b"torn copy", torn(20000, 1), &sealed(20000, 1));
     repair(b"copy of another magic", torn(20000, 1), &sealed(16416, 1));
     repair(b"copy of type 7", torn(20000, 1), &sealed(16424, 7));
-    repair(b"copy of page 0 for page 1", torn(20000, 1), &sealed(16432, 0));
-    repair(b"start of a file", torn(20000, 1), &file()[..24]);
+    repair(
+        b"copy of page 0 for page 1",
+        torn(20000, 1),
+        &sealed(16432, 0),
+    );
+    repair(b"start of a file", torn(20000, 1), &file()[0..24]);
 }
 
 fn area_cases() {
     let mut a = torn(20000, 1);
-    let r = doublewrite::repair(MAGIC, &mut a[..32767], &file());
+    let r = doublewrite::repair(MAGIC, &mut a[0..32767], &file());
     verdict(b"one byte of the pages short", r.verdict);
     word(b"\n");
 }
@@ -188,17 +204,27 @@ fn list_cases() {
     write(b"twice", &pages(), &[0, 0], &mut f);
     write(b"past the last", &pages(), &[0, 2], &mut f);
     write(b"past 32 bits", &pages(), &[4294967296], &mut f);
-    write(b"a byte of a page short", &pages()[..32767], &[0, 1], &mut f);
+    write(
+        b"a byte of a page short",
+        &pages()[0..32767],
+        &[0, 1],
+        &mut f,
+    );
 }
 
 fn room_cases() {
     let mut f = file();
-    write(b"both into a byte less", &pages(), &[0, 1], &mut f[..32807]);
-    write(b"falling into a byte less", &pages(), &[1, 0], &mut f[..32807]);
-    write(b"none into 24 bytes", &pages(), &[], &mut f[..24]);
-    write(b"none into 23 bytes", &pages(), &[], &mut f[..23]);
+    write(b"both into a byte less", &pages(), &[0, 1], &mut f[0..32807]);
+    write(
+        b"falling into a byte less",
+        &pages(),
+        &[1, 0],
+        &mut f[0..32807],
+    );
+    write(b"none into 24 bytes", &pages(), &[], &mut f[0..24]);
+    write(b"none into 23 bytes", &pages(), &[], &mut f[0..23]);
     write(b"none of no pages", &[], &[], &mut f);
-    read(b"the area of these", &f[..24], 0);
+    read(b"the area of these", &f[0..24], 0);
 }
 
 fn main() {

@@ -13,22 +13,7 @@ use crate::{assert_no_differences, tell};
 
 const SEEDS: Range<u64> = 0..20_000;
 
-/// The calls that refuse by the paper's numbers.
-const REFUSING: [&str; 11] = [
-    "recover",
-    "read_row",
-    "verify",
-    "verify_from",
-    "next_visible",
-    "list_visible",
-    "free_map",
-    "log_open",
-    "doublewrite_read",
-    "repair",
-    "doublewrite_write",
-];
-
-/// Those that refuse pages which are not good.
+/// The calls that refuse pages which are not good, and the others that refuse by the papers' numbers.
 const OVER_PAGES: [&str; 7] = [
     "recover",
     "read_row",
@@ -38,6 +23,7 @@ const OVER_PAGES: [&str; 7] = [
     "list_visible",
     "free_map",
 ];
+const OTHERS: [&str; 4] = ["log_open", "doublewrite_read", "repair", "doublewrite_write"];
 
 /// One sweep over all seeds, which the tests below look at.
 fn seen() -> &'static Seen {
@@ -59,7 +45,8 @@ fn seen() -> &'static Seen {
 /// How often each call gave each number, and what else was counted.
 fn counts(seen: &Seen) -> String {
     let mut text = format!("{:>24}", "number");
-    for entry in REFUSING {
+    let refusing = || OVER_PAGES.iter().chain(&OTHERS);
+    for entry in refusing() {
         text += &format!("{entry:>18}");
     }
     let done = (0, "done");
@@ -68,7 +55,7 @@ fn counts(seen: &Seen) -> String {
         .chain(REFUSALS.iter().map(|it| (it.number, it.name)))
     {
         text += &format!("\n{number:>2} {name:>21}");
-        for entry in REFUSING {
+        for entry in refusing() {
             text += &format!("{:>18}", seen.times(entry, number));
         }
     }
@@ -76,6 +63,14 @@ fn counts(seen: &Seen) -> String {
         text += &format!("\n{times:>10} x {event}");
     }
     text
+}
+
+/// Fails unless a call gave each of these numbers more than fifty times.
+fn assert_gives(seen: &Seen, entry: &'static str, numbers: &[u64]) {
+    for &number in numbers {
+        let times = seen.times(entry, number);
+        assert!(times > 50, "{entry} gave {number} {times} times");
+    }
 }
 
 /// Fails if something came up fewer times than it should.
@@ -133,10 +128,7 @@ fn page_faults_are_told_apart() {
     let seen = seen();
     assert_no_differences(seen);
     for entry in OVER_PAGES {
-        for number in [11, 17, 18, 19] {
-            let times = seen.times(entry, number);
-            assert!(times > 50, "{entry} gave {number} {times} times");
-        }
+        assert_gives(seen, entry, &[11, 17, 18, 19]);
     }
     assert_often(
         seen,
@@ -177,16 +169,9 @@ fn torn_pages_are_repaired() {
     for kind in file_kinds() {
         assert_often(seen, &[(kind, 100)]);
     }
-    for (entry, numbers) in [
-        ("doublewrite_read", &[0, 1, 22, 23, 24, 25][..]),
-        ("repair", &[0, 1, 22, 23, 24, 25]),
-        ("doublewrite_write", &[0, 1, 25, 26]),
-    ] {
-        for &number in numbers {
-            let times = seen.times(entry, number);
-            assert!(times > 50, "{entry} gave {number} {times} times");
-        }
-    }
+    assert_gives(seen, "doublewrite_read", &[0, 1, 22, 23, 24, 25]);
+    assert_gives(seen, "repair", &[0, 1, 22, 23, 24, 25]);
+    assert_gives(seen, "doublewrite_write", &[0, 1, 25, 26]);
     assert_often(
         seen,
         &[
