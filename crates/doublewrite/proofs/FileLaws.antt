@@ -2,21 +2,19 @@
 -- Assumes nothing.
 use mathlib.Core.Path.{_≡_, refl, sym, ap, _∙_}
 use mathlib.Core.Bool.{Bool, true, false}
-use Prim.Native.Nat.{ℕ, zero, suc, _+_, _*_, _≤_, _<_}
+use Prim.Native.Nat.{ℕ, _≤_, _<_}
 use native.Mathlib.Omega.{arith}
 use mathlib.Core.List.{List}
-use lib.ListN.{length, take}
-use lib.Dec.{ltb, eqb}
+use lib.ListN.{length}
+use lib.Dec.{eqb}
 use borrow.Author.Tests.{le-ltb, lt-ltb, eq-eqb, ne-eqb, eqb-true}
 use Rattle.endian.specs.Pick.{pick}
 use Rattle.endian.specs.Numbers.{numberOf, numberAt}
-use Rattle.crc32c.specs.Crc.{crc32c}
 use Rattle.refusals.specs.Verdict.{verdict, accepted}
 use Rattle.page.proofs.Picks.{both}
-use Rattle.doublewrite.specs.File.{slotPlace, fileBytes, name, version, slotCount, idAt, isHeaded, isSummed, isMarked, idsFit, fileVerdict, readVerdict, contentsOf, idOf}
+use Rattle.doublewrite.specs.File.{fileBytes, name, version, slotCount, idAt, isHeaded, isSummed, isMarked, idsFit, fileVerdict, readVerdict, contentsOf, idOf}
 use Rattle.refusals.specs.declared.Verdict.{Verdict}
 use Rattle.page.specs.Layout.{pageLimit}
-use Rattle.doublewrite.specs.declared.Contents.{Contents}
 
 abbrev told : Bool → Bool → Bool → Bool → Verdict
 told h s m i = pick h (pick s (pick m (pick i accepted (verdict 25 0)) (verdict 24 0)) (verdict 23 0)) (verdict 22 0)

@@ -2,20 +2,19 @@
 -- it puts these where pages are torn and listed, and changes nothing else.
 -- Assumes nothing.
 use mathlib.Core.Path.{_≡_, refl, sym, ap, _∙_}
-use mathlib.Core.Logic.{_⊎_, inl, inr, ⊎-elim}
-use mathlib.Core.Bool.{Bool, true, false}
-use Prim.Native.Nat.{ℕ, zero, suc, _+_, _*_, _/_, _≤_, _<_}
+use mathlib.Core.Logic.{_⊎_, inl, inr}
+use mathlib.Core.Bool.{true, false}
+use Prim.Native.Nat.{ℕ, zero, suc, _*_, _/_, _≤_, _<_}
 use native.Mathlib.Decide.{ℕ-discrete}
 use native.Mathlib.Omega.{arith}
-use mathlib.Core.List.{List, [], _∷_}
+use mathlib.Core.List.{List}
 use lib.ListN.{length, getD}
-use lib.Dec.{eqb}
 use borrow.Author.Tests.{eq-eqb, ne-eqb}
 use Rattle.page.specs.Layout.{pageBytes, pageLimit, pagesIn, pageAt}
 use Rattle.page.specs.Good.{Good}
 use Rattle.page.proofs.Areas.{same-pages}
-use Rattle.doublewrite.specs.File.{slotCount, idAt, copyAt}
-use Rattle.doublewrite.specs.Repair.{copyIn, copyOf, isTorn, isTaken, repairedPage, repairedBy, repaired}
+use Rattle.doublewrite.specs.File.{slotCount}
+use Rattle.doublewrite.specs.Repair.{copyIn, copyOf, isTorn, repairedPage, repaired}
 use Rattle.doublewrite.specs.Write.{fileOf, rises}
 use Rattle.doublewrite.proofs.Repairing.{copy-good, good-taken, whole-stays, page-kept, page-restored, page-twice, page-by, length-by}
 use Rattle.doublewrite.proofs.Listed.{rise-order}

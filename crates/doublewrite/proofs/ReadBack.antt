@@ -1,19 +1,15 @@
 -- A file that was written reads back: it is accepted, and holds the pages of its list.
 -- Assumes nothing.
 use mathlib.Core.Path.{_≡_, refl, sym, ap, _∙_}
-use mathlib.Core.Bool.{Bool, true, false}
+use mathlib.Core.Bool.{true, false}
 use Prim.Native.Nat.{ℕ, zero, suc, _+_, _*_, _^_, _≤_, _<_}
-use native.Mathlib.Nat.{add-zero}
 use native.Mathlib.Omega.{arith}
 use mathlib.Core.List.{List, [], _∷_, _++_, append-assoc}
-use lib.ListN.{length, take, drop, getD, length-append, drop-of-length-le}
+use lib.ListN.{length, take, drop, getD, length-append}
 use lib.Seq.{drop-cons, drop-nil, drop-length, drop-at, drop-drop, take-at, take-all, drop-append-le}
-use lib.Dec.{ltb, eqb}
 use borrow.Author.Tests.{lt-ltb, eq-eqb, ne-eqb}
-use Rattle.endian.specs.Pick.{pick}
-use Rattle.endian.specs.Numbers.{part, bytesOf, numberOf, numberAt, Bytes}
+use Rattle.endian.specs.Numbers.{bytesOf, numberOf, numberAt, Bytes}
 use Rattle.endian.proofs.Numbers.{length-bytesOf, number-back}
-use Rattle.endian.proofs.Places.{number-drop, number-append}
 use Rattle.endian.proofs.Bytes.{bytes-nil, bytes-append, bytes-of, bytes-take, bytes-drop}
 use Rattle.crc32c.specs.Crc.{crc32c}
 use Rattle.crc32c.proofs.Range.{crc-lt}
@@ -23,7 +19,6 @@ use Rattle.page.proofs.Verdicts.{page-length}
 use Rattle.doublewrite.specs.File.{slotBytes, slotPlace, fileBytes, name, mark, slotCount, idAt, copyAt, isHeaded, isSummed, isMarked, isNamed, idsFit, fileVerdict}
 use Rattle.doublewrite.specs.Write.{headerOf, slotOf, slotsOf, footerOf, frontOf, fileOf, rises}
 use Rattle.doublewrite.proofs.FileLaws.{case-fine}
-use Rattle.doublewrite.proofs.Ids.{fit-more}
 use Rattle.doublewrite.proofs.Listed.{rise-each, rise-order, rise-length}
 use Rattle.doublewrite.proofs.Writing.{name-bytes, Lent, length-slot, length-header, length-footer, length-front}
 

@@ -1,11 +1,11 @@
 -- Repair page by page: what becomes of one page, and of each page of an area.
 -- Assumes nothing.
 use mathlib.Core.Path.{_≡_, refl, sym, ap, _∙_}
-use mathlib.Core.Bool.{Bool, true, false, not}
+use mathlib.Core.Bool.{Bool, true, false}
 use Prim.Native.Nat.{ℕ, zero, suc, _+_, _*_, _≤_, _<_}
 use native.Mathlib.Nat.{add-zero, zero-add}
 use native.Mathlib.Omega.{arith}
-use mathlib.Core.List.{List, [], _∷_, _++_}
+use mathlib.Core.List.{List, [], _∷_}
 use lib.ListN.{length, length-append}
 use lib.Dec.{eqb}
 use borrow.Author.Tests.{eq-eqb, ne-eqb, eqb-true}
@@ -27,7 +27,6 @@ use Rattle.page.proofs.Areas.{page-first, page-later}
 use Rattle.page.proofs.Verdicts.{page-length}
 use Rattle.doublewrite.specs.File.{slotCount, fileVerdict}
 use Rattle.doublewrite.specs.Repair.{copyIn, isTorn, isGood, isTaken, repairedPage, repairedBy, restoredBy, repairVerdict, repairOf, pagesAfter}
-use Rattle.doublewrite.specs.declared.Restored.{Restored}
 use Rattle.doublewrite.proofs.FileLaws.{accepted-file}
 
 -- ---- one page

@@ -10,7 +10,7 @@ use mathlib.Core.List.{List, []}
 use lib.ListN.{length, take, drop}
 use lib.Seq.{paste, length-paste}
 use lib.Dec.{eqb}
-use borrow.Author.Tests.{eq-eqb, ne-eqb, eqb-false}
+use borrow.Author.Tests.{eq-eqb, ne-eqb}
 use Rattle.endian.specs.Pick.{pick}
 use Rattle.page.specs.Layout.{pageBytes, pagesIn, pageAt}
 use Rattle.page.proofs.Picks.{neither}

@@ -1,8 +1,8 @@
 -- A file stored part by part, and what the writer answers.
 -- Assumes nothing.
 use mathlib.Core.Path.{_≡_, refl, sym, ap, ap₂, _∙_}
-use mathlib.Core.Bool.{Bool, true, false}
-use Prim.Native.Nat.{ℕ, zero, suc, _+_, _*_, _≤_, _<_}
+use mathlib.Core.Bool.{true, false}
+use Prim.Native.Nat.{ℕ, suc, _+_, _*_, _≤_, _<_}
 use native.Mathlib.Nat.{zero-add}
 use native.Mathlib.Numerals.{add-one}
 use native.Mathlib.Omega.{arith}
@@ -19,10 +19,8 @@ use Rattle.refusals.specs.declared.Verdict.{Verdict}
 use Rattle.page.specs.Layout.{pageBytes, pagesIn, pageAt}
 use Rattle.page.specs.Fault.{sizeWrong}
 use Rattle.page.proofs.Verdicts.{page-length}
-use Rattle.doublewrite.specs.File.{headerBytes, slotBytes, footerBytes, slotPlace, fileBytes, name, version, mark}
+use Rattle.doublewrite.specs.File.{headerBytes, slotBytes, footerBytes, slotPlace, fileBytes, name, mark}
 use Rattle.doublewrite.specs.Write.{headerOf, slotOf, slotsOf, footerOf, frontOf, fileOf, rises, writeVerdict, writtenOf, areaAfter}
-use Rattle.doublewrite.specs.declared.Written.{Written}
-use Rattle.doublewrite.proofs.Listed.{rise-each}
 
 -- ---- lengths
 

@@ -2,11 +2,11 @@
 ghost use mathlib.Core.Path.{_≡_};
 ghost use mathlib.Core.Bool.{true};
 ghost use mathlib.Core.List.{_++_};
-ghost use Prim.Native.Nat.{ℕ, _*_, _+_, _<_, _≤_};
+ghost use Prim.Native.Nat.{_*_, _+_, _<_, _≤_};
 ghost use lib.ListN.{length, take, drop};
 ghost use lib.Seq.{paste};
 ghost use Rattle.crc32c.specs.Tables.{Tables};
-ghost use Rattle.page.specs.Layout.{pageLimit, pagesIn};
+ghost use Rattle.page.specs.Layout.{pagesIn};
 ghost use Rattle.doublewrite.specs.File.{headerBytes, slotBytes, footerBytes, slotPlace, fileBytes};
 ghost use Rattle.doublewrite.specs.Write.{headerOf, slotOf, slotsOf, footerOf, fileOf, rises};
 use crate::file::COUNT_AT;

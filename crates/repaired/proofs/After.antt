@@ -2,10 +2,10 @@
 -- Assumes nothing.
 use mathlib.Core.Path.{_≡_, refl, sym, ap, _∙_}
 use mathlib.Core.Bool.{Bool, true, false}
-use Prim.Native.Nat.{ℕ, zero, suc, _+_, _*_, _/_, _≤_, _<_}
+use Prim.Native.Nat.{ℕ, zero, suc, _+_, _*_}
 use native.Mathlib.Omega.{arith}
-use mathlib.Core.List.{List, [], _++_}
-use lib.ListN.{length, take}
+use mathlib.Core.List.{List}
+use lib.ListN.{length}
 use lib.Dec.{eqb}
 use borrow.Author.Tests.{eq-eqb, eqb-true}
 use Rattle.endian.specs.Pick.{pick}
@@ -17,8 +17,8 @@ use Rattle.refusals.specs.Verdict.{verdict}
 use Rattle.page.specs.Layout.{pageBytes, pagesIn, pageAt}
 use Rattle.page.specs.Fault.{sizeWrong}
 use Rattle.page.proofs.Verdicts.{page-length, right-size}
-use Rattle.doublewrite.specs.File.{slotPlace, slotCount, idAt, copyAt, fileVerdict}
-use Rattle.doublewrite.specs.Repair.{copyIn, isTaken, repairedPage, repairedBy, repaired, repairVerdict, pagesAfter}
+use Rattle.doublewrite.specs.File.{slotPlace, idAt, copyAt, fileVerdict}
+use Rattle.doublewrite.specs.Repair.{copyIn, repairedBy, repaired, repairVerdict, pagesAfter}
 use Rattle.doublewrite.proofs.Repairing.{page-cases}
 use Rattle.rules.specs.Lent.{lent}
 use Rattle.rules.specs.Order.{fullAt}

@@ -1,32 +1,29 @@
 -- The example meets every hypothesis of both halves: the file is accepted, a copy is taken and another page kept, both as they stood, the cut has what they felt, and recovery accepts.
 -- Assumes nothing.
-use mathlib.Core.Path.{_≡_, refl, sym, ap, ap₂, _∙_, subst}
-use mathlib.Core.Logic.{inl, inr}
-use mathlib.Core.Bool.{Bool, true, false, not}
-use Prim.Native.Nat.{ℕ, zero, suc, _+_, _*_, _-_, _%_, _/_, _^_, _≤_, _<_}
+use mathlib.Core.Path.{_≡_, refl, sym, ap, _∙_}
+use mathlib.Core.Logic.{inl}
+use mathlib.Core.Bool.{Bool, true, false}
+use Prim.Native.Nat.{ℕ, zero, suc, _*_, _-_, _^_, _<_}
 use native.Mathlib.Omega.{arith}
-use mathlib.Core.List.{List, [], _∷_, _++_}
-use lib.ListN.{length, take, drop, getD, replicate, length-append}
-use lib.Dec.{eqb, ltb, lit<, lit≤}
+use mathlib.Core.List.{List, [], _∷_}
+use lib.ListN.{length, take, drop, replicate, length-append}
+use lib.Dec.{eqb, lit<}
 use lib.Seq.{paste, length-paste, drop-paste, drop-drop, take-all}
-use borrow.Author.Tests.{eq-eqb, ne-eqb, le-ltb}
+use borrow.Author.Tests.{ne-eqb}
 use Rattle.endian.specs.Pick.{pick}
-use Rattle.endian.specs.Numbers.{Bytes, bytesOf, numberAt}
+use Rattle.endian.specs.Numbers.{Bytes, bytesOf}
 use Rattle.endian.proofs.Numbers.{length-bytesOf}
 use Rattle.endian.proofs.Places.{number-stored}
 use Rattle.endian.proofs.Bytes.{bytes-append, bytes-cons, bytes-nil, bytes-zeros, bytes-of, bytes-take, bytes-drop, bytes}
 use Rattle.crc32c.specs.Crc.{crc32c}
-use Rattle.refusals.specs.Verdict.{accepted}
-use Rattle.refusals.specs.declared.Verdict.{Verdict}
-use Rattle.page.specs.Layout.{pageBytes, dataType, pagesIn, pageAt, typeOf, crcOf, bodyOf, slotAt}
+use Rattle.page.specs.Layout.{pageBytes, pagesIn, pageAt, typeOf, crcOf, bodyOf, slotAt}
 use Rattle.page.specs.Good.{Good}
 use Rattle.page.specs.Fault.{sizeWrong}
 use Rattle.page.proofs.Areas.{page-first, page-later, same-pages}
 use Rattle.page.proofs.Goodness.{packed-bytes}
 use Rattle.page.proofs.Verdicts.{page-length, size-right}
-use Rattle.doublewrite.specs.File.{fileVerdict}
-use Rattle.doublewrite.specs.Repair.{copyOf, isTorn, isTaken, repairedPage, repaired, repairVerdict, pagesAfter}
-use Rattle.doublewrite.specs.Write.{fileOf, rises}
+use Rattle.doublewrite.specs.Repair.{copyOf, isTorn, isTaken, repaired, repairVerdict, pagesAfter}
+use Rattle.doublewrite.specs.Write.{rises}
 use Rattle.doublewrite.proofs.Repairing.{copy-good, good-whole, good-taken, whole-stays, page-kept, page-restored}
 use Rattle.doublewrite.proofs.Listed.{rise-each}
 use Rattle.doublewrite.proofs.ReadBack.{written-read, file-bytes}
@@ -37,7 +34,7 @@ use Rattle.history.specs.Demand3.{HasFelt}
 use Rattle.wal.specs.Entry.{Entry, encoded, encodedAll, unsealed, header}
 use Rattle.wal.specs.Walk.{entries}
 use Rattle.history.specs.History.{ledger}
-use Rattle.cases.specs.Build.{magic, page, pageOf, headOf, entry, key, inserts, updates, tuple}
+use Rattle.cases.specs.Build.{magic, page, headOf, entry, key, inserts, updates, tuple}
 use Rattle.cases.specs.Starred.{a, c, noRecord}
 use Rattle.cases.specs.Example.{before, log, cut, moment, stood}
 use Rattle.cases.proofs.Parts.{tuple-bytes}

@@ -1,5 +1,5 @@
 -- The pages of the example history, of which page 1 is torn, and a double-write file of both as they stood: page 0 is kept, page 1 taken from its copy.
-use Prim.Native.Nat.{ℕ, zero, suc}
+use Prim.Native.Nat.{ℕ}
 use mathlib.Core.List.{List, [], _∷_, _++_}
 use lib.Dec.{eqb}
 use lib.Seq.{paste}

@@ -1,8 +1,7 @@
 use mathlib.Core.Path.{_≡_, refl, sym, ap, _∙_}
-use mathlib.Core.Bool.{true, false}
-use Prim.Native.Nat.{ℕ, _≤_, _-_}
+use mathlib.Core.Bool.{true}
+use Prim.Native.Nat.{_≤_, _-_}
 use native.Mathlib.Omega.{arith}
-use borrow.Author.Needs.{needs}
 use Rattle.doublewrite.specs.File.{idsFit}
 use Rattle.doublewrite.specs.Marks.{Marks}
 use Rattle.doublewrite.proofs.Ids.{fit-lent, fit-twice, fit-more}

@@ -1,4 +1,3 @@
-use native.Mathlib.Omega.{arith}
 use borrow.Author.Needs.{needs}
 use Rattle.page.proofs.Verdicts.{page-part}
 use Rattle.doublewrite.proofs.Writing.{slot-stored}
