@@ -7,6 +7,7 @@ pub mod Pasting
 pub mod Packing
 pub mod Listing
 pub mod RowLists
+pub mod RowBounds
 pub mod Visibility
 pub mod Mapping
 pub mod Picks

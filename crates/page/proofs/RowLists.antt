@@ -15,7 +15,6 @@ use types.Run.{OneOf, miss}
 use denote.Enum.Declared.{tagOf}
 use Rattle.endian.specs.Pick.{pick, consIf}
 use Rattle.page.specs.Layout.{dataType, pagesIn, pageAt, typeOf, countOf, slotAt}
-use Rattle.page.specs.Good.{DataGood}
 use Rattle.page.specs.Rows.{visible, row, slotRows, pageRows, rowsFrom, visibleRows, atOrAfter, firstAt, rowsAt, Listable, numbersOf, numbersPerRow, numbersOfAll, listed, listOf, listAfter, noList, rowList, rowsAfter}
 use Rattle.page.specs.Fault.{verdictOf}
 use Rattle.refusals.specs.declared.Verdict.{Verdict}
@@ -28,7 +27,7 @@ use Rattle.page.proofs.NextRow.{the-type}
 -- ---- the order of places
 
 -- slot k of page i is at or before the place of r
-abbrev Before : ℕ → ℕ → Row → Type 0
+abbrev pub Before : ℕ → ℕ → Row → Type 0
 Before i k r = (i < r .page .0) ⊎ ((r .page .0 ≡ i) × (k ≤ r .slot))
 
 is-before : (i k : ℕ) (r : Row) → atOrAfter i k r ≡ true → Before i k r
@@ -54,7 +53,7 @@ not-before i k r h = go (atOrAfter i k r) refl
 -- ---- rows in their order
 
 -- each stands behind the one before it, and the first at or after slot k of page i
-abbrev Rising : ℕ → ℕ → List Row → Type 0
+abbrev pub Rising : ℕ → ℕ → List Row → Type 0
 Rising i k [] = Unit
 Rising i k (r ∷ rs) = Before i k r × Rising (r .page .0) (suc (r .slot)) rs
 
@@ -86,7 +85,7 @@ rising-page i p rest u = go (eqb (typeOf p) dataType)
     go true = rising-slots i p (countOf p) 0 rest u
     go false = lower (suc i) 0 i 0 rest (inl (omega arith)) u
 
-rising-pages : (s : List ℕ) (n i : ℕ) → Rising i 0 (rowsFrom s n i)
+pub rising-pages : (s : List ℕ) (n i : ℕ) → Rising i 0 (rowsFrom s n i)
 unfolding rowsFrom
 rising-pages s zero i = tt
 rising-pages s (suc n) i = rising-page i (pageAt i s) (rowsFrom s n (suc i)) (rising-pages s n (suc i))
@@ -103,6 +102,10 @@ module _ (i k : ℕ) where
       down : Before i k r → (i < r .page .0) ⊎ ((i ≡ r .page .0) × (k ≤ suc (r .slot)))
       down (inl l) = inl l
       down (inr p) = inr (sym (p .0), omega arith)
+
+-- from slot 0 of page 0 on there are all
+pub rows-all : (s : List ℕ) → rowsAt 0 0 (visibleRows s) ≡ visibleRows s
+rows-all s = all-at 0 0 (visibleRows s) (rising-pages s (pagesIn s) 0)
 
 abbrev headOr : Row → List Row → Row
 headOr d [] = d
@@ -180,7 +183,7 @@ first-is i k (r ∷ rs) = go (atOrAfter i k r) (first-is i k rs)
     go true e = refl
     go false e = e
 
-abbrev rowOr : Row → NextRow → Row
+abbrev pub rowOr : Row → NextRow → Row
 rowOr d (Refused v) = d
 rowOr d (At r) = r
 rowOr d NoMore = d
@@ -204,50 +207,6 @@ module _ (s : List ℕ) (i k : ℕ) where
   -- or meets none, as a `let .. else` finds it
   pub row-none : (x : NextRow) → x ≡ firstAt i k (visibleRows s) → OneOf (0 ∷ 2 ∷ []) (tagOf the-type x) → rowsAt i k (visibleRows s) ≡ []
   row-none x e o = head-none (rowsAt i k (visibleRows s)) (rw (e ∙ first-is i k (visibleRows s)) at o)
-
--- ---- a row's slot is below 4,080
-
-abbrev Low : List Row → Type 0
-Low [] = Unit
-Low (r ∷ rs) = (r .slot < 4080) × Low rs
-
-low-append : (xs ys : List Row) → Low xs → Low ys → Low (xs ++ ys)
-low-append [] ys u v = v
-low-append (r ∷ xs) ys u v = (u .0, low-append xs ys (u .1) v)
-
-low-slots : (i : ℕ) (p : List ℕ) (n k : ℕ) → k + n ≤ 4080 → Low (slotRows i p n k)
-unfolding slotRows
-low-slots i p zero k l = tt
-low-slots i p (suc n) k l = go (visible (slotAt p k)) (low-slots i p n (suc k) (omega arith))
-  where
-    go : (t : Bool) → Low (slotRows i p n (suc k)) → Low (consIf t (row i k p) (slotRows i p n (suc k)))
-    go true u = (omega arith, u)
-    go false u = u
-
-low-page : (i : ℕ) (p : List ℕ) → (typeOf p ≡ dataType → DataGood p) → Low (pageRows i p)
-unfolding pageRows
-low-page i p d = go (eqb (typeOf p) dataType) refl
-  where
-    go : (t : Bool) → eqb (typeOf p) dataType ≡ t → Low (pick t (slotRows i p (countOf p) 0) [])
-    go true e = let g = d (eqb-true _ _ e) in low-slots i p (countOf p) 0 (omega (arith, g .start, g .startEnd, g .end))
-    go false e = tt
-
-low-pages : (s : List ℕ) → Listable s → (n i : ℕ) → i + n ≡ pagesIn s → Low (rowsFrom s n i)
-unfolding rowsFrom
-low-pages s d zero i e = tt
-low-pages s d (suc n) i e = low-append (pageRows i (pageAt i s)) (rowsFrom s n (suc i)) (low-page i (pageAt i s) (d .at i (omega arith))) (low-pages s d n (suc i) (omega arith))
-
-low-first : (i k : ℕ) (r : Row) (rs : List Row) → Low rs → firstAt i k rs ≡ At r → r .slot < 4080
-unfolding firstAt
-low-first i k r [] u e = let z : _≡_ {A = ℕ} 0 1 = cc in absurd (omega arith)
-low-first i k r (q ∷ rs) u e = go (atOrAfter i k q) (low-first i k r rs (u .1)) e
-  where
-    go : (t : Bool) → (firstAt i k rs ≡ At r → r .slot < 4080) → pick t (At q) (firstAt i k rs) ≡ At r → r .slot < 4080
-    go true f h = let z : q ≡ r = ap (rowOr r) h in rw (← z) (u .0)
-    go false f h = f h
-
-pub slot-low : (s : List ℕ) → Listable s → (i k : ℕ) (r : Row) → firstAt i k (visibleRows s) ≡ At r → r .slot < 4080
-slot-low s d i k r e = low-first i k r (visibleRows s) (low-pages s d (pagesIn s) 0 (omega arith)) e
 
 -- ---- rows as numbers
 

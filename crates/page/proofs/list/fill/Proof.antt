@@ -5,7 +5,8 @@ use lib.ListN.{length}
 use borrow.Author.Needs.{needs}
 use Rattle.page.specs.Rows.{rowsAt, visibleRows, firstAt}
 use Rattle.page.specs.declared.NextRow.the-variants.{At}
-use Rattle.page.proofs.RowLists.{Given, row-next, row-none, slot-low, given-none, given-length, given-more, given-end, given-full}
+use Rattle.page.proofs.RowLists.{Given, row-next, row-none, given-none, given-length, given-more, given-end, given-full}
+use Rattle.page.proofs.RowBounds.{slot-low}
 use Rattle.page.proofs.list.fill.Statement.{statement}
 use Rattle.page.proofs.list.fill.Tie as tie
 
