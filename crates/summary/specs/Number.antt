@@ -1,5 +1,6 @@
 -- Numbers in groups of seven bits, lowest group first, the high bit set on all groups but the last, in the fewest groups (paper 02, W6).
-use Prim.Native.Nat.{ℕ, zero, suc, _+_, _*_, _/_, _%_, _^_}
+use Prim.Native.Nat.{ℕ, zero, suc, _+_, _*_, _/_, _%_, _^_, _<_}
+use mathlib.Core.Path.{_≡_}
 use mathlib.Core.List.{List, [], _∷_}
 use mathlib.Core.Bool.{Bool, true}
 use lib.ListN.{length, take, drop}
@@ -54,6 +55,11 @@ endsEarly t = leb (length t) (continued t)
 -- 29: more groups than the fewest, or a number over 64 bits
 unfoldable pub misspelt : List ℕ → Bool
 misspelt g = pick (ltb (length (groups (valueOf g))) (length g)) true (leb (2 ^ 64) (valueOf g))
+
+-- the last group of the number at place p stands at `end`
+pub record Ends (f : List ℕ) (p end : ℕ) : Type 0 where
+  pub at : end ≡ p + continued (drop p f)
+  pub within : end < length f
 
 -- what the number at place p is refused by, 0 for nothing: 28, 29, then what a rule says of the number
 unfoldable pub refusalAt : (ℕ → ℕ) → List ℕ → ℕ → ℕ

@@ -9,6 +9,7 @@ mod pages;
 mod recovery;
 mod rows;
 mod seen;
+mod summary;
 mod sweep;
 mod twin;
 

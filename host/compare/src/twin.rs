@@ -69,6 +69,43 @@ pub fn free_map(of: oracle::FreeMap) -> library::FreeMap {
     }
 }
 
+pub fn summary_written(of: oracle::SummaryWritten) -> library::SummaryWritten {
+    library::SummaryWritten {
+        number: of.number,
+        place: of.place,
+        length: of.length,
+    }
+}
+
+pub fn summary(of: oracle::Summary) -> library::Summary {
+    library::Summary {
+        number: of.number,
+        place: of.place,
+        lsn: of.lsn,
+        count: of.count,
+        first: of.first,
+    }
+}
+
+pub fn summary_row(of: oracle::SummaryRow) -> library::SummaryRow {
+    library::SummaryRow {
+        number: of.number,
+        place: of.place,
+        page: of.page,
+        slot: of.slot,
+        length: of.length,
+    }
+}
+
+pub fn summary_step(of: oracle::SummaryStep) -> library::SummaryStep {
+    library::SummaryStep {
+        page: of.page,
+        slot: of.slot,
+        length: of.length,
+        next: of.next,
+    }
+}
+
 /// A step that found an entry, with the place it leads to.
 fn entry(next: u64, of: oracle::EntryFields) -> library::Step {
     library::Step {

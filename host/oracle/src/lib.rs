@@ -10,6 +10,7 @@ mod log_rules;
 mod page;
 mod recovery;
 mod row;
+mod summary;
 
 pub use crc::crc32c;
 pub use listing::{
@@ -18,6 +19,10 @@ pub use listing::{
 pub use log::{backward, forward, log_open, EntryFields, Step};
 pub use recovery::{recover, Answer, Record};
 pub use row::{read_row, Row};
+pub use summary::{
+    summary_read, summary_row, summary_rows, summary_step, summary_write, Summary, SummaryRow,
+    SummaryStep, SummaryWritten,
+};
 
 /// A page is 16,384 bytes.
 pub const PAGE_BYTES: usize = 16384;

@@ -4,7 +4,10 @@
 use std::collections::BTreeMap;
 
 use library::refusal::{DONE, REFUSALS};
-use library::{Answer, FreeMap, Listed, Listing, Record, Row, Step, Verdict, Visible};
+use library::{
+    Answer, FreeMap, Listed, Listing, Record, Row, Step, Summary, SummaryRow, SummaryStep,
+    SummaryWritten, Verdict, Visible,
+};
 
 const HEADER: &str = include_str!("../../../../include/lumbraquay.h");
 const CODE: &str = include_str!("../../../../crates/refusals/src/lib.rt");
@@ -78,14 +81,16 @@ fn names_and_numbers_are_the_same() {
         ("LIST_VISIBLE", &Listing::NAMES),
         ("ROW", &Listed::NAMES),
         ("FREE_MAP", &FreeMap::NAMES),
+        ("SUMMARY_WRITE", &SummaryWritten::NAMES),
+        ("SUMMARY_READ", &Summary::NAMES),
+        ("SUMMARY_ROW", &SummaryRow::NAMES),
+        ("SUMMARY_STEP", &SummaryStep::NAMES),
     ] {
         expected.extend(indices(answer, names));
     }
     assert_eq!(constants(), expected);
     assert_eq!(library::version(), library::VERSION);
-    assert!((1..)
-        .zip(REFUSALS)
-        .all(|(number, refusal)| refusal.number == number));
+    assert!(REFUSALS.is_sorted_by(|one, other| one.number < other.number));
 }
 
 /// `noDataPage` for `NO_DATA_PAGE`.

@@ -38,7 +38,7 @@ struct Row<'a> {
 }
 
 /// The visible rows of pages that are all good, in order, from a page on.
-fn visible(pages: &Pages, first: u64) -> impl Iterator<Item = Row<'_>> {
+pub fn listed(pages: &Pages, first: u64) -> impl Iterator<Item = Listed> + '_ {
     let end = (pages.bytes.len() / PAGE_BYTES) as u64;
     let mut from = (first, 0);
     let lists = std::iter::from_fn(move || {
@@ -54,7 +54,12 @@ fn visible(pages: &Pages, first: u64) -> impl Iterator<Item = Row<'_>> {
         let rows = library::listed(&numbers).take(list.count as usize);
         Some(rows.collect::<Vec<Listed>>())
     });
-    lists.flatten().filter_map(|at| {
+    lists.flatten()
+}
+
+/// The same with their tuples.
+fn visible(pages: &Pages, first: u64) -> impl Iterator<Item = Row<'_>> {
+    listed(pages, first).filter_map(|at| {
         let bytes = &pages.bytes[at.offset as usize..][..at.length as usize];
         Tuple::of(bytes).map(|tuple| Row { at, tuple })
     })
