@@ -9,7 +9,7 @@ use mathlib.Core.List.{List, [], _∷_, _++_, map, append-assoc}
 use lib.ListN.{length, drop, getD, length-drop, length-map, drop-of-length-le, List·getD-eq-default}
 use lib.Seq.{drop-drop, drop-at}
 use lib.Dec.{ltb, eqb}
-use borrow.Author.Tests.{lt-ltb, le-ltb, eq-eqb, ne-eqb, ltb-false, eqb-true}
+use borrow.Author.Tests.{le-ltb, ltb-false, eqb-true}
 use Rattle.endian.specs.Pick.{pick}
 use Rattle.endian.specs.Numbers.{Bytes}
 use Rattle.endian.proofs.Bytes.{bytes-drop}
@@ -31,6 +31,7 @@ use Rattle.summary.specs.declared.SummaryStep.{SummaryStep}
 use Rattle.summary.proofs.Spelling.{spelling-split, well-spelt, spelling-back, value-back, whole-back, well-back}
 use Rattle.summary.proofs.Places.{Reads, reads-refusal, zero-reads}
 use Rattle.summary.proofs.RowBytes.{few-rows}
+use Rattle.summary.proofs.RuleLaws.{edition-is, page-kept, slot-kept, length-kept}
 
 abbrev numberIn : Verdict → ℕ
 numberIn v = v .number
@@ -125,19 +126,6 @@ Kept i k (r ∷ rs) =
     (r .page .0 < pageLimit) × (r .slot < slotLimit) × (rowHead ≤ r .length) × (r .length ≤ longestTuple) × ((i < r .page .0) ⊎ ((r .page .0 ≡ i) × (k ≤ r .slot)))
     × Kept (r .page .0) (suc (r .slot)) rs
 
-page-kept : (i n : ℕ) → n < pageLimit → i ≤ n → pageRule i n ≡ 0
-unfolding pageRule
-page-kept i n l m = rw (lt-ltb n pageLimit l, le-ltb n i m)
-
-slot-kept : (i k page n : ℕ) → n < slotLimit → (i < page) ⊎ ((page ≡ i) × (k ≤ n)) → slotRule i k page n ≡ 0
-unfolding slotRule
-slot-kept i k page n l (inl m) = rw (lt-ltb n slotLimit l, ne-eqb page i (λ e. absurd (omega arith)))
-slot-kept i k page n l (inr m) = rw (lt-ltb n slotLimit l, eq-eqb page i (m .0), le-ltb n k (m .1))
-
-length-kept : (n : ℕ) → rowHead ≤ n → n ≤ longestTuple → lengthRule n ≡ 0
-unfolding lengthRule
-length-kept n l m = rw (le-ltb n rowHead l, le-ltb longestTuple n m)
-
 low-page : (i page k n : ℕ) → (i < page) ⊎ ((page ≡ i) × (k ≤ n)) → i ≤ page
 low-page i page k n (inl l) = omega arith
 low-page i page k n (inr e) = omega arith
@@ -180,14 +168,6 @@ unfolding rowsFrom
 length-rows zero f p = refl
 length-rows (suc n) f p = ap suc (length-rows n f (behind f p))
 
-edition-is : (n : ℕ) → editionRule n ≡ 0 → n ≡ edition
-unfolding editionRule
-edition-is n z = by-test (eqb n edition) refl z
-  where
-    by-test : (t : Bool) → eqb n edition ≡ t → pick t 0 30 ≡ 0 → n ≡ edition
-    by-test true e q = eqb-true n edition e
-    by-test false e q = absurd (omega arith)
-
 module _ (f : List ℕ) (ok : fileVerdict f .number ≡ 0) where
   pub head-ok : headVerdict f .number ≡ 0
   unfolding fileVerdict
@@ -196,6 +176,24 @@ module _ (f : List ℕ) (ok : fileVerdict f .number ≡ 0) where
   pub rows-ok : rowsVerdict (countOf f) 0 0 f (behind f 0) .number ≡ 0
   unfolding fileVerdict countOf
   rows-ok = then-zero (headVerdict f) _ ok .1
+
+-- a verdict that does not refuse is the one that accepts
+rows-accepted : (n i k : ℕ) (f : List ℕ) (p : ℕ) → rowsVerdict n i k f p .number ≡ 0 → rowsVerdict n i k f p ≡ accepted
+unfolding rowsVerdict
+rows-accepted zero i k f p z = by-test (ltb p (length f)) z
+  where
+    by-test : (t : Bool) → pick t (verdict 33 p) accepted .number ≡ 0 → pick t (verdict 33 p) accepted ≡ accepted
+    by-test true q = absurd (omega arith)
+    by-test false q = refl
+rows-accepted (suc n) i k f p z =
+    let a = then-zero (rowVerdict i k f p) _ z in
+    then-accepted (rowVerdict i k f p) _ (a .0) ∙ rows-accepted n (valueAt f p) (suc (valueAt f (second f p))) f (behind f p) (a .1)
+
+pub file-accepted : (f : List ℕ) → fileVerdict f .number ≡ 0 → fileVerdict f ≡ accepted
+unfolding fileVerdict
+file-accepted f z =
+    let a = then-zero (headVerdict f) _ z in
+    then-accepted (headVerdict f) _ (a .0) ∙ rows-accepted (valueAt f (third f 0)) 0 0 f (behind f 0) (a .1)
 
 -- a file that is not refused is the file of what it says
 pub the-file : (f : List ℕ) → Bytes f → fileVerdict f .number ≡ 0 → f ≡ fileOf (lsnOf f) (rowsOf f)
@@ -221,7 +219,7 @@ unfolding fileOf headOf
 spelled lsn rows = simp append-assoc
 
 pub read-back : (lsn : ℕ) (rows : List SummaryRow) → lsn < 2 ^ 64 → length rows < 2 ^ 64 → Kept 0 0 rows → Back (fileOf lsn rows) lsn rows
-unfolding fileVerdict lsnOf countOf rowsOf
+unfolding fileVerdict lsnOf countOf rowsOf editionRule
 read-back lsn rows l m h =
     let f : List ℕ = fileOf lsn rows in
     let t = three-back editionRule (λ n. anyNumber) anyNumber f 0 edition lsn (length rows) (rowsBytes rows) (spelled lsn rows) (omega arith) l m refl refl refl in

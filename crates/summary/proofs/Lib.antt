@@ -2,6 +2,8 @@ pub mod Grouping
 pub mod Spelling
 pub mod Places
 pub mod Threes
+pub mod RuleLaws
 pub mod RowBytes
 pub mod FileLaws
+pub mod Answers
 pub mod Example

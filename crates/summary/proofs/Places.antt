@@ -36,7 +36,7 @@ module _ (f : List ℕ) (p : ℕ) where
 
 -- ---- a number whose last group stands at `end`
 
-module _ (f : List ℕ) (p end : ℕ) (y : Bytes f) (e : Ends f p end) where
+module _ (f : List ℕ) (p end : ℕ) (e : Ends f p end) where
   pub ends-whole : Whole (drop p f)
   ends-whole = simp length-drop (omega (arith, e .at, e .within))
 
@@ -46,26 +46,9 @@ module _ (f : List ℕ) (p end : ℕ) (y : Bytes f) (e : Ends f p end) where
   many : end - p ≡ continued (drop p f)
   many = omega (arith, e .at)
 
-  -- as code tests it
-  pub one-group : end - p ≡ 0 → false ≡ misspelt (spelling (drop p f))
-  one-group h = sym (spelt-one (drop p f) (bytes-drop p y) ends-whole (sym many ∙ h))
-
-  module _ (h : end - p ≡ 0 → ⊥) where
-    pub last-zero : getD f end 0 ≡ 0 → true ≡ misspelt (spelling (drop p f))
-    last-zero z = sym (spelt-zero (drop p f) (bytes-drop p y) ends-whole (omega (arith, many, h)) (top ∙ z))
-
-    module _ (z : getD f end 0 ≡ 0 → ⊥) where
-      high : 1 ≤ topOf (drop p f)
-      high = omega (arith, top, z)
-
-      pub few-groups : end - p < 9 → false ≡ misspelt (spelling (drop p f))
-      few-groups l = sym (spelt-nine (drop p f) (bytes-drop p y) ends-whole high (omega (arith, many)))
-
-      pub many-groups : 9 < end - p → true ≡ misspelt (spelling (drop p f))
-      many-groups l = sym (spelt-over (drop p f) (bytes-drop p y) ends-whole high (omega (arith, many)))
-
-      pub ten-groups : 9 ≤ end - p → end - p ≤ 9 → ltb 1 (getD f end 0) ≡ misspelt (spelling (drop p f))
-      ten-groups l m = sym (spelt-ten (drop p f) (bytes-drop p y) ends-whole high (omega (arith, many)) ∙ ap (ltb 1) top)
+  pub after-end : end + 1 ≡ afterAt f p
+  unfolding afterAt
+  after-end = omega (arith, e .at, length-spelling (drop p f) ends-whole)
 
   -- ---- the value, from the last group back
 
@@ -102,9 +85,28 @@ module _ (f : List ℕ) (p end : ℕ) (y : Bytes f) (e : Ends f p end) where
       let t : valueOf (part q (end + 1 - q) f) ≤ upto p = rw d at (value-tail (q - p) (part p (end + 1 - p) f)) in
       omega (arith, t, upto-all)
 
-  pub after-end : end + 1 ≡ afterAt f p
-  unfolding afterAt
-  after-end = omega (arith, e .at, length-spelling (drop p f) ends-whole)
+  -- ---- whether it is misspelt, as code tests it
+
+  module _ (y : Bytes f) where
+    pub one-group : end - p ≡ 0 → false ≡ misspelt (spelling (drop p f))
+    one-group h = sym (spelt-one (drop p f) (bytes-drop p y) ends-whole (sym many ∙ h))
+
+    module _ (h : end - p ≡ 0 → ⊥) where
+      pub last-zero : getD f end 0 ≡ 0 → true ≡ misspelt (spelling (drop p f))
+      last-zero z = sym (spelt-zero (drop p f) (bytes-drop p y) ends-whole (omega (arith, many, h)) (top ∙ z))
+
+      module _ (z : getD f end 0 ≡ 0 → ⊥) where
+        high : 1 ≤ topOf (drop p f)
+        high = omega (arith, top, z)
+
+        pub few-groups : end - p < 9 → false ≡ misspelt (spelling (drop p f))
+        few-groups l = sym (spelt-nine (drop p f) (bytes-drop p y) ends-whole high (omega (arith, many)))
+
+        pub many-groups : 9 < end - p → true ≡ misspelt (spelling (drop p f))
+        many-groups l = sym (spelt-over (drop p f) (bytes-drop p y) ends-whole high (omega (arith, many)))
+
+        pub ten-groups : 9 ≤ end - p → end - p ≤ 9 → ltb 1 (getD f end 0) ≡ misspelt (spelling (drop p f))
+        ten-groups l m = sym (spelt-ten (drop p f) (bytes-drop p y) ends-whole high (omega (arith, many)) ∙ ap (ltb 1) top)
 
 -- ---- a number reads
 
@@ -126,12 +128,12 @@ module _ (f : List ℕ) (p : ℕ) where
   unfolding refusalAt endsEarly
   cases rule = by-end (leb (length (drop p f)) (continued (drop p f))) refl
     where
-      by-spelling : (t : Bool) → Whole (drop p f) → misspelt (spelling (drop p f)) ≡ t → Reads f p ⊎ ((pick t 29 0 ≡ 0 → ⊥) × (pick t 29 (rule (valueAt f p)) ≡ pick t 29 0))
+      by-spelling : (t : Bool) → Whole (drop p f) → misspelt (spelling (drop p f)) ≡ t → Reads f p ⊎ ((_≡_ {A = ℕ} (pick t 29 0) 0 → ⊥) × (_≡_ {A = ℕ} (pick t 29 (rule (valueAt f p))) (pick t 29 0)))
       by-spelling true w e = inr (λ z. omega arith, refl)
       by-spelling false w e = inl (record { whole = w; well = e })
 
       by-end : (t : Bool) → leb (length (drop p f)) (continued (drop p f)) ≡ t
-          → Reads f p ⊎ ((pick t 28 (pick (misspelt (spelling (drop p f))) 29 0) ≡ 0 → ⊥) × (pick t 28 (pick (misspelt (spelling (drop p f))) 29 (rule (valueAt f p))) ≡ pick t 28 (pick (misspelt (spelling (drop p f))) 29 0)))
+          → Reads f p ⊎ ((_≡_ {A = ℕ} (pick t 28 (pick (misspelt (spelling (drop p f))) 29 0)) 0 → ⊥) × (_≡_ {A = ℕ} (pick t 28 (pick (misspelt (spelling (drop p f))) 29 (rule (valueAt f p)))) (pick t 28 (pick (misspelt (spelling (drop p f))) 29 0))))
       by-end true e = inr (λ z. omega arith, refl)
       by-end false e = by-spelling (misspelt (spelling (drop p f))) (leb-false (length (drop p f)) (continued (drop p f)) e) refl
 
@@ -140,25 +142,33 @@ module _ (f : List ℕ) (p : ℕ) where
 
 -- ---- as code reads it
 
+-- a number that reads, and the place after it
+abbrev pub taken : ℕ → ℕ → Number
+taken v q = record { refusal = 0; value = v; after = q }
+
+-- one that is refused
+abbrev pub refusedBy : ℕ → ℕ → Number
+refusedBy k p = record { refusal = k; value = 0; after = p }
+
 module _ (f : List ℕ) (p : ℕ) where
-  pub read-early : (end : ℕ) → end ≡ p + continued (drop p f) → length f ≤ end → record { refusal = 28; value = 0; after = p } ≡ numberAt anyNumber f p
+  pub read-early : (end : ℕ) → end ≡ p + continued (drop p f) → length f ≤ end → refusedBy 28 p ≡ numberAt anyNumber f p
   unfolding numberAt refusalAt endsEarly
   read-early end e l = sym (rw (le-leb (length (drop p f)) (continued (drop p f)) (simp length-drop (omega arith))))
 
   module _ (end : ℕ) (y : Bytes f) (e : Ends f p end) where
-    pub read-misspelt : misspelt (spelling (drop p f)) ≡ true → record { refusal = 29; value = 0; after = p } ≡ numberAt anyNumber f p
+    pub read-misspelt : misspelt (spelling (drop p f)) ≡ true → refusedBy 29 p ≡ numberAt anyNumber f p
     unfolding numberAt refusalAt
-    read-misspelt m = sym (rw (whole-early f p (ends-whole f p end y e), m))
+    read-misspelt m = sym (rw (whole-early f p (ends-whole f p end e), m))
 
     pub value-fits : misspelt (spelling (drop p f)) ≡ false → valueAt f p < 2 ^ 64
     unfolding valueAt
-    value-fits m = well-spelt (drop p f) (bytes-drop p y) (ends-whole f p end y e) m .1
+    value-fits m = well-spelt (drop p f) (bytes-drop p y) (ends-whole f p end e) m .1
 
-    pub read-well : misspelt (spelling (drop p f)) ≡ false → record { refusal = 0; value = valueAt f p; after = end + 1 } ≡ numberAt anyNumber f p
+    pub read-well : misspelt (spelling (drop p f)) ≡ false → taken (valueAt f p) (end + 1) ≡ numberAt anyNumber f p
     unfolding numberAt
     read-well m =
-        let z : refusalAt anyNumber f p ≡ 0 = reads-refusal f p anyNumber (record { whole = ends-whole f p end y e; well = m }) in
-        sym (rw (z, after-end f p end y e))
+        let z : refusalAt anyNumber f p ≡ 0 = reads-refusal f p anyNumber (record { whole = ends-whole f p end e; well = m }) in
+        sym (rw (z, after-end f p end e))
 
 -- a number as it was read under a rule
 module _ (rule : ℕ → ℕ) (f : List ℕ) (p : ℕ) (n : Number) (is : n ≡ numberAt rule f p) where
@@ -167,11 +177,11 @@ module _ (rule : ℕ → ℕ) (f : List ℕ) (p : ℕ) (n : Number) (is : n ≡ 
   refusal-is = ap (λ (m : Number). m .refusal) is ∙ by-test (eqb (refusalAt rule f p) 0) refl
     where
       by-test : (t : Bool) → eqb (refusalAt rule f p) 0 ≡ t
-          → pick {A = Number} t (record { refusal = 0; value = valueAt f p; after = afterAt f p }) (record { refusal = refusalAt rule f p; value = 0; after = p }) .refusal ≡ refusalAt rule f p
+          → pick t (taken (valueAt f p) (afterAt f p)) (refusedBy (refusalAt rule f p) p) .refusal ≡ refusalAt rule f p
       by-test true e = sym (eqb-true (refusalAt rule f p) 0 e)
       by-test false e = refl
 
-  pub read-is : n .refusal ≡ 0 → n ≡ record { refusal = 0; value = valueAt f p; after = afterAt f p }
+  pub read-is : n .refusal ≡ 0 → n ≡ taken (valueAt f p) (afterAt f p)
   unfolding numberAt
   read-is z = is ∙ rw (eq-eqb (refusalAt rule f p) 0 (sym refusal-is ∙ z))
 
@@ -199,7 +209,7 @@ module _ (rule : ℕ → ℕ) (f : List ℕ) (p : ℕ) (n : Number) (is : n ≡ 
         let r = zero-reads f p anyNumber (sym (refusal-is anyNumber f p n is) ∙ z) .0 in
         reads-refusal f p rule r ∙ ap rule (sym (ap (λ (m : Number). m .value) (read-is anyNumber f p n is z)))
 
-    pub rule-broken : (k : ℕ) → rule (n .value) ≡ k → (k ≡ 0 → ⊥) → record { refusal = k; value = 0; after = p } ≡ numberAt rule f p
+    pub rule-broken : (k : ℕ) → rule (n .value) ≡ k → (k ≡ 0 → ⊥) → refusedBy k p ≡ numberAt rule f p
     unfolding numberAt
     rule-broken k e h = sym (rw (says, e, ne-eqb k 0 h))
 

@@ -2,6 +2,7 @@
 -- Assumes nothing.
 use mathlib.Core.Path.{_≡_, refl, sym, ap, _∙_}
 use Prim.Native.Nat.{ℕ, _+_, _*_, _^_, _≤_, _<_}
+use native.Mathlib.Nat.{zero-add}
 use native.Mathlib.Omega.{arith}
 use mathlib.Core.List.{List, [], _∷_, _++_, map, append-assoc}
 use lib.ListN.{length, drop, length-append, length-map}
@@ -126,8 +127,9 @@ pub file-put : (s area u w : List ℕ) (lsn n first : ℕ) → n ≡ length (vis
 unfolding fileOf
 file-put s area u w lsn n first is-n room is-u is-first is-w =
     let e : length (summaryRows s) ≡ n = length-map (visibleRows s) shortened ∙ sym is-n in
-    rw e (is-w ∙ rw (is-u, is-first) (put-two area (headOf lsn n) (rowsBytes (summaryRows s)) 0 (omega arith)))
+    let z : first ≡ 0 + length (headOf lsn n) = omega arith in
+    rw e (is-w ∙ rw (is-u, z) (put-two area (headOf lsn n) (rowsBytes (summaryRows s)) 0 (omega arith)))
 
 -- put at the front, with the later bytes as they were
 pub put-front : (area x : List ℕ) → put area 0 x ≡ x ++ drop (length x) area
-put-front area x = rw (take-length x)
+put-front area x = rw (take-length x, zero-add (length x))
