@@ -34,8 +34,11 @@ numberIn v = v .number
 abbrev pub unread : Verdict → Summary
 unread v = record { verdict = v; lsn = record { 0 = 0 }; count = 0; first = 0 }
 
+abbrev pub summaryAs : Verdict → ℕ → ℕ → ℕ → Summary
+summaryAs v lsn count first = record { verdict = v; lsn = record { 0 = lsn }; count = count; first = first }
+
 abbrev pub wholly : ℕ → ℕ → ℕ → Summary
-wholly lsn count first = record { verdict = accepted; lsn = record { 0 = lsn }; count = count; first = first }
+wholly lsn count first = summaryAs accepted lsn count first
 
 module _ (v w : Verdict) (f : List ℕ) (is : v ≡ w) where
   pub answer-refused : (v .number ≡ 0 → ⊥) → unread v ≡ answered w f
@@ -46,6 +49,16 @@ module _ (v w : Verdict) (f : List ℕ) (is : v ≡ w) where
   unfolding answered
   answer-taken z = sym (rw (← is, eq-eqb (v .number) 0 z))
 
+-- as the head is read
+module _ (f : List ℕ) (v : Verdict) where
+  pub head-none : (w : Verdict) (n q : ℕ) → v ≡ verdict n q → verdict n q ≡ w → (n ≡ 0 → ⊥) → unread v ≡ answered w f
+  head-none w n q e g h = answer-refused v w f (e ∙ g) (λ z. h (sym (ap numberIn e) ∙ z))
+
+  pub head-taken : (l c q : ℕ) → v ≡ accepted → headVerdict f ≡ accepted → l ≡ valueAt f (second f 0) → c ≡ valueAt f (third f 0) → q ≡ behind f 0
+      → summaryAs v l c q ≡ answered (headVerdict f) f
+  unfolding answered lsnOf countOf
+  head-taken l c q is e el ec eq = rw (is, el, ec, eq, e)
+
 abbrev pub noJudged : Verdict → JudgedRow
 noJudged v = record { verdict = v; page = 0; slot = 0; after = 0 }
 
@@ -53,12 +66,13 @@ pub judged-refused : (i k : ℕ) (f : List ℕ) (p : ℕ) (v : Verdict) → v �
 unfolding judgedRow
 judged-refused i k f p v is h = sym (rw (← is, ne-eqb (v .number) 0 h))
 
-abbrev pub judgedAt : ℕ → ℕ → ℕ → JudgedRow
-judgedAt page slot after = record { verdict = accepted; page = page; slot = slot; after = after }
+abbrev pub judgedAt : Verdict → ℕ → ℕ → ℕ → JudgedRow
+judgedAt v page slot after = record { verdict = v; page = page; slot = slot; after = after }
 
-pub judged-taken : (i k : ℕ) (f : List ℕ) (p : ℕ) → rowVerdict i k f p ≡ accepted → judgedAt (valueAt f p) (valueAt f (second f p)) (behind f p) ≡ judgedRow i k f p
+pub judged-taken : (i k : ℕ) (f : List ℕ) (p : ℕ) (v : Verdict) (a b q : ℕ) → v ≡ accepted → rowVerdict i k f p ≡ accepted → a ≡ valueAt f p → b ≡ valueAt f (second f p) → q ≡ behind f p
+    → judgedAt v a b q ≡ judgedRow i k f p
 unfolding judgedRow
-judged-taken i k f p e = sym (rw e)
+judged-taken i k f p v a b q is e ea eb eq = rw (is, ea, eb, eq, e)
 
 abbrev pub stepTo : ℕ → ℕ → ℕ → ℕ → SummaryStep
 stepTo page slot length after = record { row = record { page = record { 0 = page }; slot = slot; length = length }; after = after }
@@ -71,9 +85,10 @@ module _ (f : List ℕ) (p : ℕ) where
   unfolding stepOf
   step-refused v is h = sym (rw (← is, ne-eqb (v .number) 0 h))
 
-  pub step-taken : stepVerdict f p ≡ accepted → stepTo (valueAt f p) (valueAt f (second f p)) (valueAt f (third f p)) (behind f p) ≡ stepOf f p
+  pub step-taken : (a b c q : ℕ) → stepVerdict f p ≡ accepted → a ≡ valueAt f p → b ≡ valueAt f (second f p) → c ≡ valueAt f (third f p) → q ≡ behind f p
+      → stepTo a b c q ≡ stepOf f p
   unfolding stepOf
-  step-taken e = sym (rw e)
+  step-taken a b c q e ea eb ec eq = rw (ea, eb, ec, eq, e)
 
 -- ---- row after row
 
@@ -101,7 +116,7 @@ module _ (i k : ℕ) (f : List ℕ) (p : ℕ) (r : JudgedRow) (is : r ≡ judged
   verdict-is = ap (λ (j : JudgedRow). j .verdict .number) is ∙ by-test (eqb (rowVerdict i k f p .number) 0) refl
     where
       by-test : (t : Bool) → eqb (rowVerdict i k f p .number) 0 ≡ t
-          → pick t (judgedAt (valueAt f p) (valueAt f (second f p)) (behind f p)) (noJudged (rowVerdict i k f p)) .verdict .number ≡ rowVerdict i k f p .number
+          → pick t (judgedAt accepted (valueAt f p) (valueAt f (second f p)) (behind f p)) (noJudged (rowVerdict i k f p)) .verdict .number ≡ rowVerdict i k f p .number
       by-test true e = sym (eqb-true (rowVerdict i k f p .number) 0 e)
       by-test false e = refl
 
@@ -109,7 +124,7 @@ module _ (i k : ℕ) (f : List ℕ) (p : ℕ) (r : JudgedRow) (is : r ≡ judged
   unfolding judgedRow
   judged-is h = is ∙ rw (ne-eqb (rowVerdict i k f p .number) 0 (λ z. h (verdict-is ∙ z)))
 
-  passed-is : r .verdict .number ≡ 0 → r ≡ judgedAt (valueAt f p) (valueAt f (second f p)) (behind f p)
+  passed-is : r .verdict .number ≡ 0 → r ≡ judgedAt accepted (valueAt f p) (valueAt f (second f p)) (behind f p)
   unfolding judgedRow
   passed-is z = is ∙ rw (eq-eqb (rowVerdict i k f p .number) 0 (sym verdict-is ∙ z))
 
@@ -132,14 +147,14 @@ module _ (i k : ℕ) (f : List ℕ) (p : ℕ) (r : JudgedRow) (is : r ≡ judged
       let t = accepted-three (pageRule i) (slotRule i k) lengthRule f p (sym verdict-is ∙ z) in
       rw (passed-is z) (slot-low i k (valueAt f p) (valueAt f (second f p)) (t .kept₂))
 
-module _ (i k : ℕ) (f : List ℕ) (p : ℕ) where
-  pub rows-left-over : p < length f → verdict 33 p ≡ rowsVerdict 0 i k f p
+module _ (i k : ℕ) (f : List ℕ) (p n : ℕ) (none : n ≡ 0) where
+  pub rows-left-over : p < length f → verdict 33 p ≡ rowsVerdict n i k f p
   unfolding rowsVerdict
-  rows-left-over l = sym (rw (lt-ltb p (length f) l))
+  rows-left-over l = sym (rw (none, lt-ltb p (length f) l))
 
-  pub rows-end : length f ≤ p → accepted ≡ rowsVerdict 0 i k f p
+  pub rows-end : length f ≤ p → accepted ≡ rowsVerdict n i k f p
   unfolding rowsVerdict
-  rows-end l = sym (rw (le-ltb p (length f) l))
+  rows-end l = sym (rw (none, le-ltb p (length f) l))
 
 -- ---- a file
 
@@ -203,14 +218,15 @@ module _ (f : List ℕ) (n : ℕ) (s : Summary) (is : s ≡ summaryOf f) where
 
 -- ---- steps one after another
 
-module _ (f : List ℕ) (p n : ℕ) where
-  pub nth-more : 0 < n → getD (stepRows (suc n) f p) n noRow ≡ getD (stepRows (suc (n - 1)) f (stepOf f p .after)) (n - 1) noRow
+module _ (f : List ℕ) (p : ℕ) where
+  pub nth-more : (n : ℕ) → 0 < n → getD (stepRows (suc n) f p) n noRow ≡ getD (stepRows (suc (n - 1)) f (stepOf f p .after)) (n - 1) noRow
   unfolding stepRows
-  nth-more l = let e : n ≡ suc (n - 1) = omega arith in rw e
+  nth-more zero l = absurd (omega arith)
+  nth-more (suc n) l = let e : suc n - 1 ≡ n = omega arith in rw e
 
-  pub nth-last : n ≡ 0 → getD (stepRows (suc n) f p) n noRow ≡ stepOf f p .row
+  pub nth-last : (n : ℕ) → n ≡ 0 → getD (stepRows (suc n) f p) n noRow ≡ stepOf f p .row
   unfolding stepRows
-  nth-last e = rw e
+  nth-last n e = rw e
 
 -- ---- writing
 
@@ -228,12 +244,12 @@ module _ (magic : ℕ) (s : List ℕ) (lsn : ℕ) (area : List ℕ) (v : Verdict
     pub write-short : length area < need → (writtenAs (verdict 27 0) 0 ≡ written magic s lsn area) × (area ≡ areaAfter magic s lsn area)
     unfolding written areaAfter writeVerdict
     write-short l =
-        let m : ltb (length area) (length (summaryFile s lsn)) ≡ true = lt-ltb _ _ (omega arith) in
+        let m : ltb (length area) (length (summaryFile s lsn)) ≡ true = lt-ltb (length area) (length (summaryFile s lsn)) (omega arith) in
         (sym (rw (← is, eq-eqb (v .number) 0 z, m)), sym (rw (← is, eq-eqb (v .number) 0 z, m)))
 
     pub write-done : need ≤ length area → (new : List ℕ) → new ≡ put area 0 (summaryFile s lsn)
         → (writtenAs accepted need ≡ written magic s lsn area) × (new ≡ areaAfter magic s lsn area)
     unfolding written areaAfter writeVerdict
     write-done l new e =
-        let m : ltb (length area) (length (summaryFile s lsn)) ≡ false = le-ltb _ _ (omega arith) in
+        let m : ltb (length area) (length (summaryFile s lsn)) ≡ false = le-ltb (length area) (length (summaryFile s lsn)) (omega arith) in
         (rw long (sym (rw (← is, eq-eqb (v .number) 0 z, m))), e ∙ put-front area (summaryFile s lsn) ∙ sym (rw (← is, eq-eqb (v .number) 0 z, m)))

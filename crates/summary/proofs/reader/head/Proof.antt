@@ -1,84 +1,71 @@
+use mathlib.Core.Path.{_∙_}
 use borrow.Author.Needs.{needs}
+use Rattle.summary.specs.Number.{anyNumber}
+use Rattle.summary.specs.Summary.{editionRule, headVerdict}
+use Rattle.summary.proofs.Threes.{first-refused, second-refused, third-refused, taken}
+use Rattle.summary.proofs.Answers.{head-none, head-taken}
 use Rattle.summary.proofs.reader.head.Statement.{statement}
 use Rattle.summary.proofs.reader.head.Tie as tie
-use Rattle.summary.proofs.reader.head.Reads as reads
-use Rattle.summary.proofs.reader.head.Lts as lts
-use Rattle.summary.proofs.numbers.read.Reads as read-reads
-use Rattle.summary.proofs.reader.edition.Reads as edition-reads
-use Rattle.summary.proofs.reader.no_summary.Reads as no-summary-reads
-use Rattle.summary.proofs.reader.verdict.Reads as verdict-reads
 
--- src/reader.rt:71:9
-edition-requires : tie.Need-edition-requires
-edition-requires c κs = search needs
-
--- src/reader.rt:73:27
-verdict-requires : tie.Need-verdict-requires
-verdict-requires c κs = search needs
-
--- src/reader.rt:73:9
-no-summary-requires : tie.Need-no-summary-requires
-no-summary-requires c κs = search needs
-
--- src/reader.rt:73:9
 returns : tie.Need-returns
-returns c = ?
+returns c =
+    let v = c .before in
+    let i = v .before in
+    let r = i .before .before in
+    let f = r .before .before .args .file .now in
+    c .no-summary .ensures ∙ head-none f (v .verdict .result) (headVerdict f) _ _ (v .verdict .ensures) (first-refused editionRule (λ n. anyNumber) anyNumber f 0 (r .edition .result) (r .edition .ensures) (i .if1 .taken)) (i .if1 .taken)
 
--- src/reader.rt:75:9
-read-requires : tie.Need-read-requires
-read-requires c κs = search needs
-
--- src/reader.rt:77:27
-verdict-requires-2 : tie.Need-verdict-requires-2
-verdict-requires-2 c κs = search needs
-
--- src/reader.rt:77:9
-no-summary-requires-2 : tie.Need-no-summary-requires-2
-no-summary-requires-2 c κs = search needs
-
--- src/reader.rt:77:9
 returns-2 : tie.Need-returns-2
-returns-2 c = ?
+returns-2 c =
+    let v = c .before in
+    let j = v .before in
+    let q = j .before .before in
+    let i = q .before in
+    let r = i .before .before in
+    let f = r .before .before .args .file .now in
+    c .no-summary2 .ensures
+    ∙ head-none f (v .verdict2 .result) (headVerdict f) _ _ (v .verdict2 .ensures) (second-refused editionRule (λ n. anyNumber) anyNumber f 0 (r .edition .result) (r .edition .ensures) (i .if1 .left) (q .read .result) (q .read .ensures) (j .if2 .taken)) (j .if2 .taken)
 
--- src/reader.rt:79:9
-read-requires-2 : tie.Need-read-requires-2
-read-requires-2 c κs = search needs
-
--- src/reader.rt:81:27
-verdict-requires-3 : tie.Need-verdict-requires-3
-verdict-requires-3 c κs = search needs
-
--- src/reader.rt:81:9
-no-summary-requires-3 : tie.Need-no-summary-requires-3
-no-summary-requires-3 c κs = search needs
-
--- src/reader.rt:81:9
 returns-3 : tie.Need-returns-3
-returns-3 c = ?
+returns-3 c =
+    let v = c .before in
+    let k = v .before in
+    let u = k .before .before in
+    let j = u .before in
+    let q = j .before .before in
+    let i = q .before in
+    let r = i .before .before in
+    let f = r .before .before .args .file .now in
+    c .no-summary3 .ensures
+    ∙ head-none f (v .verdict3 .result) (headVerdict f) _ _ (v .verdict3 .ensures) (third-refused editionRule (λ n. anyNumber) anyNumber f 0 (r .edition .result) (r .edition .ensures) (i .if1 .left) (q .read .result) (q .read .ensures) (j .if2 .left) (u .read2 .result) (u .read2 .ensures) (k .if3 .taken)) (k .if3 .taken)
 
--- src/reader.rt:84:18
-verdict-requires-4 : tie.Need-verdict-requires-4
-verdict-requires-4 c κs = search needs
-
--- src/reader.rt:68:1
 returns-4 : tie.Need-returns-4
-returns-4 c = ?
+returns-4 c =
+    let k = c .before in
+    let u = k .before .before in
+    let j = u .before in
+    let q = j .before .before in
+    let i = q .before in
+    let r = i .before .before in
+    let f = r .before .before .args .file .now in
+    let t = taken editionRule (λ n. anyNumber) anyNumber f 0 (r .edition .result) (r .edition .ensures) (i .if1 .left) (q .read .result) (q .read .ensures) (j .if2 .left) (u .read2 .result) (u .read2 .ensures) (k .if3 .left) in
+    head-taken f (c .verdict4 .result) _ _ _ (c .verdict4 .ensures) (t .verdict-is) (t .value₂) (t .value₃) (t .after₃)
 
 pub head-spec : {M : Type 1} → statement M
 head-spec =
     tie.close
     (tie.spec
-    edition-requires
-    verdict-requires
-    no-summary-requires
+    (λ c κs. search needs)
+    (λ c κs. search needs)
+    (λ c κs. search needs)
     returns
-    read-requires
-    verdict-requires-2
-    no-summary-requires-2
+    (λ c κs. search needs)
+    (λ c κs. search needs)
+    (λ c κs. search needs)
     returns-2
-    read-requires-2
-    verdict-requires-3
-    no-summary-requires-3
+    (λ c κs. search needs)
+    (λ c κs. search needs)
+    (λ c κs. search needs)
     returns-3
-    verdict-requires-4
+    (λ c κs. search needs)
     returns-4)

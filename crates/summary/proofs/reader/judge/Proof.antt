@@ -1,15 +1,10 @@
-use mathlib.Core.Path.{_≡_, refl, sym, ap, _∙_}
-use Prim.Native.Nat.{ℕ, _-_}
+use mathlib.Core.Path.{_≡_, refl, sym, _∙_}
 use native.Mathlib.Omega.{arith}
 use borrow.Author.Needs.{needs}
 use Rattle.summary.specs.Summary.{rowsVerdict}
 use Rattle.summary.proofs.Answers.{row-refused, row-passed, row-low, rows-left-over, rows-end}
 use Rattle.summary.proofs.reader.judge.Statement.{statement}
 use Rattle.summary.proofs.reader.judge.Tie as tie
-use Rattle.summary.proofs.reader.judge.Reads as reads
-use Rattle.summary.proofs.reader.judge.Lts as lts
-use Rattle.summary.proofs.reader.judged_row.Reads as judged-row-reads
-use Rattle.summary.proofs.reader.verdict.Reads as verdict-reads
 
 abbrev Inv-loop : tie.InvT-loop
 Inv-loop file count first left₀ at₀ page₀ slot₀ left at page slot = rowsVerdict left page slot file at ≡ rowsVerdict count 0 0 file first
@@ -17,49 +12,46 @@ Inv-loop file count first left₀ at₀ page₀ slot₀ left at page slot = rows
 abbrev μ-loop : tie.MeasureT-loop
 μ-loop file count first left₀ at₀ page₀ slot₀ left at page slot = left
 
--- src/reader.rt:190:5
-loop-holds : tie.Need-loop-holds Inv-loop μ-loop
-loop-holds c = refl
-
--- src/reader.rt:191:13
-judged-row-requires : tie.Need-judged-row-requires Inv-loop μ-loop
-judged-row-requires c κs = search needs
-
--- src/reader.rt:194:13
 returns : tie.Need-returns Inv-loop μ-loop
-returns c = ?
+returns c =
+    let r = c .before .before .before in
+    let m = r .before .before in
+    let l = m .loop in
+    row-refused (l .page) (l .slot) (m .before .before .args .file .now) (l .at) (r .judged-row .result) (r .judged-row .ensures) (l .left) (r .before .loop-test .taken) (c .if1 .taken)
+    ∙ l .inv
 
--- src/reader.rt:197:16
 add-slot : tie.Need-add-slot Inv-loop μ-loop
-add-slot c = ?
+add-slot c =
+    let i = c .before in
+    let r = i .before .before .before in
+    let m = r .before .before in
+    let l = m .loop in
+    record { fits = omega (arith, row-low (l .page) (l .slot) (m .before .before .args .file .now) (l .at) (r .judged-row .result) (r .judged-row .ensures) (i .if1 .left)) }
 
--- src/reader.rt:199:9
-sub-left : tie.Need-sub-left Inv-loop μ-loop
-sub-left c = omega arith
-
--- src/reader.rt:190:5
-loop-less : tie.Need-loop-less Inv-loop μ-loop
-loop-less c = omega arith
-
--- src/reader.rt:190:5
 loop-again : tie.Need-loop-again Inv-loop μ-loop
-loop-again c = ?
+loop-again c =
+    let i = c .before in
+    let r = i .before .before .before in
+    let m = r .before .before in
+    let l = m .loop in
+    sym (row-passed (l .page) (l .slot) (m .before .before .args .file .now) (l .at) (r .judged-row .result) (r .judged-row .ensures) (l .left) (r .before .loop-test .taken) (i .if1 .left))
+    ∙ l .inv
 
--- src/reader.rt:202:9
-verdict-requires : tie.Need-verdict-requires Inv-loop μ-loop
-verdict-requires c κs = search needs
-
--- src/reader.rt:202:9
 returns-2 : tie.Need-returns-2 Inv-loop μ-loop
-returns-2 c = ?
+returns-2 c =
+    let m = c .before .before .before in
+    let l = m .loop in
+    c .verdict .ensures
+    ∙ rows-left-over (l .page) (l .slot) (m .before .before .args .file .now) (l .at) (l .left) (omega (arith, c .before .before .loop-test .left)) (c .before .if2 .taken)
+    ∙ l .inv
 
--- src/reader.rt:204:5
-verdict-requires-2 : tie.Need-verdict-requires-2 Inv-loop μ-loop
-verdict-requires-2 c κs = search needs
-
--- src/reader.rt:183:1
 returns-3 : tie.Need-returns-3 Inv-loop μ-loop
-returns-3 c = ?
+returns-3 c =
+    let m = c .before .before .before in
+    let l = m .loop in
+    c .verdict2 .ensures
+    ∙ rows-end (l .page) (l .slot) (m .before .before .args .file .now) (l .at) (l .left) (omega (arith, c .before .before .loop-test .left)) (c .before .if2 .left)
+    ∙ l .inv
 
 pub judge-spec : {M : Type 1} → statement M
 judge-spec =
@@ -67,14 +59,14 @@ judge-spec =
     (tie.spec
     Inv-loop
     μ-loop
-    loop-holds
-    judged-row-requires
+    (λ c. refl)
+    (λ c κs. search needs)
     returns
     add-slot
-    sub-left
-    loop-less
+    (λ c. omega arith)
+    (λ c. omega arith)
     loop-again
-    verdict-requires
+    (λ c κs. search needs)
     returns-2
-    verdict-requires-2
+    (λ c κs. search needs)
     returns-3)

@@ -1,70 +1,69 @@
+use mathlib.Core.Path.{_∙_}
 use borrow.Author.Needs.{needs}
+use Rattle.summary.specs.Summary.{pageRule, slotRule, lengthRule}
+use Rattle.summary.proofs.Threes.{first-refused, second-refused, third-refused, taken}
+use Rattle.summary.proofs.Answers.{judged-refused, judged-taken}
 use Rattle.summary.proofs.reader.judged_row.Statement.{statement}
 use Rattle.summary.proofs.reader.judged_row.Tie as tie
-use Rattle.summary.proofs.reader.judged_row.Reads as reads
-use Rattle.summary.proofs.reader.judged_row.Lts as lts
-use Rattle.summary.proofs.reader.length_at.Reads as length-at-reads
-use Rattle.summary.proofs.reader.no_judged.Reads as no-judged-reads
-use Rattle.summary.proofs.reader.page_at.Reads as page-at-reads
-use Rattle.summary.proofs.reader.slot_at.Reads as slot-at-reads
-use Rattle.summary.proofs.reader.verdict.Reads as verdict-reads
 
--- src/reader.rt:162:9
-page-at-requires : tie.Need-page-at-requires
-page-at-requires c κs = search needs
-
--- src/reader.rt:164:9
-no-judged-requires : tie.Need-no-judged-requires
-no-judged-requires c κs = search needs
-
--- src/reader.rt:164:9
 returns : tie.Need-returns
-returns c = ?
+returns c =
+    let i = c .before in
+    let r = i .before .before in
+    let a = r .before .before .args in
+    c .no-judged .ensures
+    ∙ judged-refused (a .page) (a .slot) (a .file .now) (a .at) _ (first-refused (pageRule (a .page)) (slotRule (a .page) (a .slot)) lengthRule (a .file .now) (a .at) (r .page-at .result) (r .page-at .ensures) (i .if1 .taken)) (i .if1 .taken)
 
--- src/reader.rt:166:9
-slot-at-requires : tie.Need-slot-at-requires
-slot-at-requires c κs = search needs
-
--- src/reader.rt:168:9
-no-judged-requires-2 : tie.Need-no-judged-requires-2
-no-judged-requires-2 c κs = search needs
-
--- src/reader.rt:168:9
 returns-2 : tie.Need-returns-2
-returns-2 c = ?
+returns-2 c =
+    let j = c .before in
+    let q = j .before .before in
+    let i = q .before in
+    let r = i .before .before in
+    let a = r .before .before .args in
+    c .no-judged2 .ensures
+    ∙ judged-refused (a .page) (a .slot) (a .file .now) (a .at) _
+    (second-refused (pageRule (a .page)) (slotRule (a .page) (a .slot)) lengthRule (a .file .now) (a .at) (r .page-at .result) (r .page-at .ensures) (i .if1 .left) (q .slot-at .result) (q .slot-at .ensures) (j .if2 .taken))
+    (j .if2 .taken)
 
--- src/reader.rt:170:9
-length-at-requires : tie.Need-length-at-requires
-length-at-requires c κs = search needs
-
--- src/reader.rt:172:9
-no-judged-requires-3 : tie.Need-no-judged-requires-3
-no-judged-requires-3 c κs = search needs
-
--- src/reader.rt:172:9
 returns-3 : tie.Need-returns-3
-returns-3 c = ?
+returns-3 c =
+    let k = c .before in
+    let u = k .before .before in
+    let j = u .before in
+    let q = j .before .before in
+    let i = q .before in
+    let r = i .before .before in
+    let a = r .before .before .args in
+    c .no-judged3 .ensures
+    ∙ judged-refused (a .page) (a .slot) (a .file .now) (a .at) _
+    (third-refused (pageRule (a .page)) (slotRule (a .page) (a .slot)) lengthRule (a .file .now) (a .at) (r .page-at .result) (r .page-at .ensures) (i .if1 .left) (q .slot-at .result) (q .slot-at .ensures) (j .if2 .left) (u .length-at .result) (u .length-at .ensures) (k .if3 .taken))
+    (k .if3 .taken)
 
--- src/reader.rt:175:18
-verdict-requires : tie.Need-verdict-requires
-verdict-requires c κs = search needs
-
--- src/reader.rt:159:1
 returns-4 : tie.Need-returns-4
-returns-4 c = ?
+returns-4 c =
+    let k = c .before in
+    let u = k .before .before in
+    let j = u .before in
+    let q = j .before .before in
+    let i = q .before in
+    let r = i .before .before in
+    let a = r .before .before .args in
+    let t = taken (pageRule (a .page)) (slotRule (a .page) (a .slot)) lengthRule (a .file .now) (a .at) (r .page-at .result) (r .page-at .ensures) (i .if1 .left) (q .slot-at .result) (q .slot-at .ensures) (j .if2 .left) (u .length-at .result) (u .length-at .ensures) (k .if3 .left) in
+    judged-taken (a .page) (a .slot) (a .file .now) (a .at) (c .verdict .result) _ _ _ (c .verdict .ensures) (t .verdict-is) (t .value₁) (t .value₂) (t .after₃)
 
 pub judged-row-spec : {M : Type 1} → statement M
 judged-row-spec =
     tie.close
     (tie.spec
-    page-at-requires
-    no-judged-requires
+    (λ c κs. search needs)
+    (λ c κs. search needs)
     returns
-    slot-at-requires
-    no-judged-requires-2
+    (λ c κs. search needs)
+    (λ c κs. search needs)
     returns-2
-    length-at-requires
-    no-judged-requires-3
+    (λ c κs. search needs)
+    (λ c κs. search needs)
     returns-3
-    verdict-requires
+    (λ c κs. search needs)
     returns-4)

@@ -3,13 +3,11 @@ use Prim.Native.Nat.{ℕ, suc, _-_}
 use native.Mathlib.Omega.{arith}
 use lib.ListN.{getD}
 use borrow.Author.Needs.{needs}
-use Rattle.summary.specs.Summary.{noRow, stepOf, stepRows}
+use Rattle.summary.specs.Summary.{noRow, stepRows}
+use Rattle.summary.specs.declared.SummaryStep.{SummaryStep}
 use Rattle.summary.proofs.Answers.{nth-more, nth-last}
 use Rattle.summary.proofs.reader.nth.Statement.{statement}
 use Rattle.summary.proofs.reader.nth.Tie as tie
-use Rattle.summary.proofs.reader.nth.Reads as reads
-use Rattle.summary.proofs.reader.nth.Lts as lts
-use Rattle.summary.proofs.reader.step.Reads as step-reads
 
 abbrev Inv-loop : tie.InvT-loop
 Inv-loop file first n left₀ at₀ left at = getD (stepRows (suc left) file at) left noRow ≡ getD (stepRows (suc n) file first) n noRow
@@ -17,33 +15,23 @@ Inv-loop file first n left₀ at₀ left at = getD (stepRows (suc left) file at)
 abbrev μ-loop : tie.MeasureT-loop
 μ-loop file first n left₀ at₀ left at = left
 
--- src/reader.rt:261:5
-loop-holds : tie.Need-loop-holds Inv-loop μ-loop
-loop-holds c = refl
-
--- src/reader.rt:262:13
-step-requires : tie.Need-step-requires Inv-loop μ-loop
-step-requires c κs = search needs
-
--- src/reader.rt:264:9
-sub-left : tie.Need-sub-left Inv-loop μ-loop
-sub-left c = omega arith
-
--- src/reader.rt:261:5
-loop-less : tie.Need-loop-less Inv-loop μ-loop
-loop-less c = omega arith
-
--- src/reader.rt:261:5
 loop-again : tie.Need-loop-again Inv-loop μ-loop
-loop-again c = ?
+loop-again c =
+    let m = c .before .before in
+    let l = m .loop in
+    let f = m .before .before .args .file .now in
+    ap (λ (s : SummaryStep). getD (stepRows (suc (l .left - 1)) f (s .after)) (l .left - 1) noRow) (c .step .ensures)
+    ∙ sym (nth-more f (l .at) (l .left) (c .before .loop-test .taken))
+    ∙ l .inv
 
--- src/reader.rt:266:9
-step-requires-2 : tie.Need-step-requires-2 Inv-loop μ-loop
-step-requires-2 c κs = search needs
-
--- src/reader.rt:256:1
 returns : tie.Need-returns Inv-loop μ-loop
-returns c = ?
+returns c =
+    let s = c .before in
+    let m = s .before .before in
+    let l = m .loop in
+    ap (λ (s : SummaryStep). s .row) (s .step2 .ensures)
+    ∙ sym (nth-last (m .before .before .args .file .now) (l .at) (l .left) (omega (arith, s .before .loop-test .left)))
+    ∙ l .inv
 
 pub nth-spec : {M : Type 1} → statement M
 nth-spec =
@@ -51,10 +39,10 @@ nth-spec =
     (tie.spec
     Inv-loop
     μ-loop
-    loop-holds
-    step-requires
-    sub-left
-    loop-less
+    (λ c. refl)
+    (λ c κs. search needs)
+    (λ c. omega arith)
+    (λ c. omega arith)
     loop-again
-    step-requires-2
+    (λ c κs. search needs)
     returns)
