@@ -64,8 +64,7 @@ module _ (f : List ℕ) (p : ℕ) where
   pub number-back : (n : ℕ) (u : List ℕ) → drop p f ≡ groups n ++ u → n < 2 ^ 64 → Reads f p × (valueAt f p ≡ n) × (drop (afterAt f p) f ≡ u)
   unfolding valueAt afterAt
   number-back n u e l =
-      let s : spelling (drop p f) ≡ groups n = ap spelling e ∙ spelling-back u n in
-      (
+      let s : spelling (drop p f) ≡ groups n = ap spelling e ∙ spelling-back u n in (
         record { whole = rw e (whole-back u n); well = rw s (well-back u n l) },
         ap valueOf s ∙ value-back u n,
         rw (s, ← drop-drop (length (groups n)) p f, e) (drop-at (groups n) u (length (groups n)) refl),
@@ -108,8 +107,7 @@ module _ (rule₁ : ℕ → ℕ) (rule₂ : ℕ → ℕ → ℕ) (rule₃ : ℕ 
   three-back a b c u e la lb lc ka kb kc =
       let x = number-back f p a (groups b ++ (groups c ++ u)) e la in
       let y = number-back f (second f p) b (groups c ++ u) (x .2) lb in
-      let z = number-back f (third f p) c u (y .2) lc in
-      (
+      let z = number-back f (third f p) c u (y .2) lc in (
         record { reads₁ = x .0; reads₂ = y .0; reads₃ = z .0; kept₁ = ap rule₁ (x .1) ∙ ka; kept₂ = ap₂ rule₂ (x .1) (y .1) ∙ kb; kept₃ = ap rule₃ (z .1) ∙ kc },
         x .1,
         y .1,
@@ -155,8 +153,7 @@ rows-back (r ∷ rs) i k f p h e =
     (page-kept i (r .page .0) (h .0) (low-page i (r .page .0) k (r .slot) (h .4)))
     (slot-kept i k (r .page .0) (r .slot) (h .1) (h .4))
     (length-kept (r .length) (h .2) (h .3)) in
-    let b = rows-back rs (r .page .0) (suc (r .slot)) f (behind f p) (h .5) (t .4) in
-    (
+    let b = rows-back rs (r .page .0) (suc (r .slot)) f (behind f p) (h .5) (t .4) in (
       rw (three-accepted (pageRule i) (slotRule i k) lengthRule f p (t .0), t .1, t .2) (b .0),
       rw (t .1, t .2, t .3) (ap (λ (l : List SummaryRow). r ∷ l) (b .1)),
     )

@@ -38,8 +38,7 @@ module _ (d : List ℕ) (at : ℕ) (x y z : List ℕ) (room : at + length (x ++ 
       pub three-put : (w : List ℕ) (r : ℕ) → w ≡ put v q z → r ≡ q + length z → (r ≡ at + length (x ++ (y ++ z))) × (w ≡ put d at (x ++ (y ++ z)))
       three-put w r is-w is-r =
           let two : v ≡ put d at (x ++ y) = is-v ∙ rw (is-u, is-p) (put-two d x y at first-room) in
-          let place : q ≡ at + length (x ++ y) = omega (arith, length-append x y) in
-          (
+          let place : q ≡ at + length (x ++ y) = omega (arith, length-append x y) in (
             omega (arith, length-three x y z),
             is-w ∙ rw (two, place) (put-two d (x ++ y) z at (omega (arith, length-three x y z, length-append x y))) ∙ ap (put d at) (append-assoc x y z),
           )

@@ -72,7 +72,10 @@ pub fn write(magic: u64, pages: &[u8], lsn: Lsn, area: &mut [u8]) -> Written
 {
     let v = page::verify(magic, pages);
     if v.number != 0 {
-        return Written { verdict: v, length: 0 };
+        return Written {
+            verdict: v,
+            length: 0,
+        };
     }
     let m = writer::measure(pages);
     let need = writer::head_size(lsn, m.rows) + m.bytes;
@@ -118,12 +121,21 @@ pub fn row(file: &[u8], n: u64) -> NumberedRow
     let s = read(file);
     let v = s.verdict;
     if v.number != 0 {
-        return NumberedRow { verdict: v, row: reader::no_row() };
+        return NumberedRow {
+            verdict: v,
+            row: reader::no_row(),
+        };
     }
     if s.count <= n {
-        return NumberedRow { verdict: v, row: reader::no_row() };
+        return NumberedRow {
+            verdict: v,
+            row: reader::no_row(),
+        };
     }
-    NumberedRow { verdict: v, row: reader::nth(file, s.first, n) }
+    NumberedRow {
+        verdict: v,
+        row: reader::nth(file, s.first, n),
+    }
 }
 
 // The row at a place and the place after it, whatever stands before: as many steps as the count, from the first row's place on, give the rows of a file that is not refused. Zeros and

@@ -51,7 +51,11 @@ fn headed(p: [u8; 49152], at: usize, kind: u16, id: u16, count: u16, end: u16) -
 fn pages() -> [u8; 49152] {
     let p = [0u8; 49152];
     let q = headed(headed(p, 0, 4, 0, 0, 0), 16384, 4, 1, 0, 0);
-    let r = with(with(headed(q, 32768, 1, 2, 1, 16280), 32832, 16280), 32834, 40);
+    let r = with(
+        with(headed(q, 32768, 1, 2, 1, 16280), 32832, 16280),
+        32834,
+        40,
+    );
     let a = crc32c::crc32c(&r[64..16384]);
     let b = crc32c::crc32c(&r[16448..32768]);
     let c = crc32c::crc32c(&r[32832..]);
@@ -204,7 +208,10 @@ fn edition_cases() {
 }
 
 fn range_cases() {
-    judged(b"page 4095 slot 4079 length 24", &[1, 5, 1, 255, 31, 239, 31, 24]);
+    judged(
+        b"page 4095 slot 4079 length 24",
+        &[1, 5, 1, 255, 31, 239, 31, 24],
+    );
     judged(b"page 4096", &[1, 5, 1, 128, 32, 0, 24]);
     judged(b"slot 4080", &[1, 5, 1, 0, 240, 31, 24]);
     judged(b"length 23", &[1, 5, 1, 0, 0, 23]);
@@ -227,7 +234,23 @@ fn end_cases() {
     judged(b"a row more promised", &[1, 5, 2, 2, 0, 40]);
     judged(
         b"2^64 - 1 rows promised",
-        &[1, 5, 255, 255, 255, 255, 255, 255, 255, 255, 255, 1, 2, 0, 40],
+        &[
+            1,
+            5,
+            255,
+            255,
+            255,
+            255,
+            255,
+            255,
+            255,
+            255,
+            255,
+            1,
+            2,
+            0,
+            40,
+        ],
     );
 }
 
@@ -235,10 +258,22 @@ fn end_cases() {
 fn several_faults() {
     judged(b"edition 2, spelled too long", &[130, 0, 128, 0]);
     judged(b"edition 2, then a zero group", &[2, 128, 0]);
-    judged(b"page 4096 that falls, spelled too long", &[1, 5, 2, 7, 5, 24, 128, 160, 0]);
-    judged(b"a lower page, spelled too long", &[1, 5, 2, 7, 5, 24, 134, 0, 0]);
-    judged(b"slot 4080 on an earlier page", &[1, 5, 2, 7, 5, 24, 6, 240, 31, 23]);
-    judged(b"slot 4080 on the same page", &[1, 5, 2, 7, 5, 24, 7, 240, 31, 23]);
+    judged(
+        b"page 4096 that falls, spelled too long",
+        &[1, 5, 2, 7, 5, 24, 128, 160, 0],
+    );
+    judged(
+        b"a lower page, spelled too long",
+        &[1, 5, 2, 7, 5, 24, 134, 0, 0],
+    );
+    judged(
+        b"slot 4080 on an earlier page",
+        &[1, 5, 2, 7, 5, 24, 6, 240, 31, 23],
+    );
+    judged(
+        b"slot 4080 on the same page",
+        &[1, 5, 2, 7, 5, 24, 7, 240, 31, 23],
+    );
     judged(b"length 23, then bytes left over", &[1, 5, 1, 0, 0, 23, 9]);
     judged(b"a length that does not end", &[1, 5, 1, 0, 0, 128]);
 }

@@ -1,37 +1,29 @@
+use mathlib.Core.Path.{_∙_}
 use borrow.Author.Needs.{needs}
+use Rattle.summary.proofs.Answers.{head-refused, file-refused, file-taken}
 use Rattle.summary.proofs.read.Statement.{statement}
 use Rattle.summary.proofs.read.Tie as tie
-use Rattle.summary.proofs.read.Reads as reads
-use Rattle.summary.proofs.read.Lts as lts
-use Rattle.summary.proofs.reader.head.Reads as head-reads
-use Rattle.summary.proofs.reader.judge.Reads as judge-reads
-use Rattle.summary.proofs.reader.no_summary.Reads as no-summary-reads
 
--- src/rt:102:9
-head-requires : tie.Need-head-requires
-head-requires c κs = search needs
-
--- src/rt:105:9
 returns : tie.Need-returns
-returns c = ?
+returns c =
+    let h = c .before .before .before in
+    head-refused (h .before .before .args .file .now) (h .head .result) (h .head .ensures) (c .if1 .taken)
 
--- src/rt:107:9
-judge-requires : tie.Need-judge-requires
-judge-requires c κs = search needs
-
--- src/rt:109:9
-no-summary-requires : tie.Need-no-summary-requires
-no-summary-requires c κs = search needs
-
--- src/rt:109:9
 returns-2 : tie.Need-returns-2
-returns-2 c = ?
+returns-2 c =
+    let j = c .before in
+    let v = j .before .before in
+    let i = v .before in
+    let h = i .before .before .before in
+    c .no-summary .ensures
+    ∙ file-refused (h .before .before .args .file .now) (h .head .result) (h .head .ensures) (i .if1 .left) (v .judge .result) (v .judge .ensures) (j .if2 .taken)
 
--- src/rt:99:1
 returns-3 : tie.Need-returns-3
-returns-3 c = ?
+returns-3 c =
+    let v = c .before .before in
+    let i = v .before in
+    let h = i .before .before .before in
+    file-taken (h .before .before .args .file .now) (h .head .result) (h .head .ensures) (i .if1 .left) (v .judge .result) (v .judge .ensures) (c .if2 .left)
 
 pub read-spec : {M : Type 1} → statement M
-read-spec =
-    tie.close
-    (tie.spec head-requires returns judge-requires no-summary-requires returns-2 returns-3)
+read-spec = tie.close (tie.spec (λ c κs. search needs) returns (λ c κs. search needs) (λ c κs. search needs) returns-2 returns-3)

@@ -1,48 +1,40 @@
+use mathlib.Core.Path.{ap, _∙_}
 use borrow.Author.Needs.{needs}
+use Rattle.summary.proofs.Answers.{numberedAs, numbered-refused, numbered-past, numbered-there}
 use Rattle.summary.proofs.row.Statement.{statement}
 use Rattle.summary.proofs.row.Tie as tie
-use Rattle.summary.proofs.row.Reads as reads
-use Rattle.summary.proofs.row.Lts as lts
-use Rattle.summary.proofs.read.Reads as read-reads
-use Rattle.summary.proofs.reader.no_row.Reads as no-row-reads
-use Rattle.summary.proofs.reader.nth.Reads as nth-reads
 
--- src/rt:118:9
-read-requires : tie.Need-read-requires
-read-requires c κs = search needs
-
--- src/rt:121:47
-no-row-requires : tie.Need-no-row-requires
-no-row-requires c κs = search needs
-
--- src/rt:121:9
 returns : tie.Need-returns
-returns c = ?
+returns c =
+    let i = c .before in
+    let r = i .before .before .before in
+    let a = r .before .before .args in
+    ap (numberedAs (r .read .result .verdict)) (c .no-row .ensures) ∙ numbered-refused (a .file .now) (a .n) (r .read .result) (r .read .ensures) (i .if1 .taken)
 
--- src/rt:124:47
-no-row-requires-2 : tie.Need-no-row-requires-2
-no-row-requires-2 c κs = search needs
-
--- src/rt:124:9
 returns-2 : tie.Need-returns-2
-returns-2 c = ?
+returns-2 c =
+    let j = c .before in
+    let i = j .before .before in
+    let r = i .before .before .before in
+    let a = r .before .before .args in
+    ap (numberedAs (r .read .result .verdict)) (c .no-row2 .ensures) ∙ numbered-past (a .file .now) (a .n) (r .read .result) (r .read .ensures) (i .if1 .left) (j .if2 .taken)
 
--- src/rt:126:36
-nth-requires : tie.Need-nth-requires
-nth-requires c κs = search needs
-
--- src/rt:115:1
 returns-3 : tie.Need-returns-3
-returns-3 c = ?
+returns-3 c =
+    let j = c .before in
+    let i = j .before .before in
+    let r = i .before .before .before in
+    let a = r .before .before .args in
+    numbered-there (a .file .now) (a .n) (r .read .result) (r .read .ensures) (i .if1 .left) (j .if2 .left) (c .nth .result) (c .nth .ensures)
 
 pub row-spec : {M : Type 1} → statement M
 row-spec =
     tie.close
     (tie.spec
-    read-requires
-    no-row-requires
+    (λ c κs. search needs)
+    (λ c κs. search needs)
     returns
-    no-row-requires-2
+    (λ c κs. search needs)
     returns-2
-    nth-requires
+    (λ c κs. search needs)
     returns-3)

@@ -71,8 +71,7 @@ loop-again : tie.Need-loop-again Inv-loop μ-loop
 loop-again c =
     let n = c .before .before .before in
     let l = n .before .before .before in
-    let s = l .before .before .args .pages .now in
-    (
+    let s = l .before .before .args .pages .now in (
       counted s (l .loop .i) (l .loop .k) (l .loop .rows) (l .loop .bytes) _ (met n) (l .loop .inv .0),
       omega (arith, measured s (l .loop .i) (l .loop .k) (l .loop .rows) (l .loop .bytes) _ (met n) (l .loop .inv .1), c .before .row-size .ensures .0),
     )

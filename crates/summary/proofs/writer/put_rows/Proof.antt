@@ -71,8 +71,7 @@ loop-again c =
     let n = c .before .before .before .before .before .before in
     let l = n .before .before .before in
     let s = l .before .before .before .args .pages .now in
-    let inv = l .loop .inv in
-    (
+    let inv = l .loop .inv in (
       put-length s (l .loop .i) (l .loop .k) (l .loop .at) (l .loop .area) _ (met n) (inv .1) (r .last .0) (r .result) (r .ensures .1) (r .ensures .0) ∙ inv .0,
       put-room s (l .loop .i) (l .loop .k) (l .loop .at) (l .loop .area) _ (met n) (inv .1) (r .last .0) (r .result) (r .ensures .1) (r .ensures .0),
       put-rest s (l .loop .i) (l .loop .k) (l .loop .at) (l .loop .area) _ (met n) (inv .1) (r .last .0) (r .result) (r .ensures .1) (r .ensures .0) ∙ inv .2,
