@@ -16,60 +16,47 @@ fn number(name: &[u8], n: u64) {
     io::print_decimal(1, n);
 }
 
-fn line(name: &[u8]) {
-    word(name);
-    word(b"\n");
-}
-
 // ---- pages
 
-fn with(mut p: [u8; 49152], at: usize, n: u16) -> [u8; 49152] {
+// The page with n in the two bytes at a place.
+fn with(mut p: [u8; 16384], at: usize, n: u16) -> [u8; 16384] {
     endian::put_u16(&mut p, at, n);
     p
 }
 
-fn with_checksum(mut p: [u8; 49152], at: usize, c: u32) -> [u8; 49152] {
-    endian::put_u32(&mut p, at, c);
+// The page with its checksum anew.
+fn summed(mut p: [u8; 16384]) -> [u8; 16384] {
+    let c = crc32c::crc32c(&p[64..]);
+    endian::put_u32(&mut p, 12, c);
     p
 }
 
-fn with_magic(mut p: [u8; 49152], at: usize) -> [u8; 49152] {
-    endian::put_u64(&mut p, at, MAGIC);
-    p
-}
-
-// The header of a page at a place: type, id, item count, free start and free end.
-fn headed(p: [u8; 49152], at: usize, kind: u16, id: u16, count: u16, end: u16) -> [u8; 49152]
-    requires { ⌜ at < 32769 ⌝ }
-    requires { ⌜ count < 4081 ⌝ }
-{
-    let q = with(with(with_magic(p, at), at + 8, kind), at + 10, count);
-    with(with(with(q, at + 16, id), at + 32, 4 * count), at + 34, end)
+// A page of zeros with a type, an id, an item count, free start and free end.
+fn headed(kind: u16, id: u16, count: u16, start: u16, end: u16) -> [u8; 16384] {
+    let mut p = [0u8; 16384];
+    endian::put_u64(&mut p, 0, MAGIC);
+    let q = with(with(p, 8, kind), 10, count);
+    with(with(with(q, 16, id), 32, start), 34, end)
 }
 
 // Pages 0 and 1, free, and page 2, with 40 bytes in slot 0.
 fn pages() -> [u8; 49152] {
-    let p = [0u8; 49152];
-    let q = headed(headed(p, 0, 4, 0, 0, 0), 16384, 4, 1, 0, 0);
-    let r = with(
-        with(headed(q, 32768, 1, 2, 1, 16280), 32832, 16280),
-        32834,
-        40,
-    );
-    let a = crc32c::crc32c(&r[64..16384]);
-    let b = crc32c::crc32c(&r[16448..32768]);
-    let c = crc32c::crc32c(&r[32832..]);
-    with_checksum(with_checksum(with_checksum(r, 12, a), 16396, b), 32780, c)
+    let mut a = [0u8; 49152];
+    page::inner::store(&mut a, 0, &summed(headed(4, 0, 0, 0, 16320)));
+    page::inner::store(&mut a, 1, &summed(headed(4, 1, 0, 0, 16320)));
+    let p = with(with(headed(1, 2, 1, 4, 16280), 64, 16280), 66, 40);
+    page::inner::store(&mut a, 2, &summed(p));
+    a
 }
 
 // ---- what is seen
 
-fn show_bytes(s: &[u8]) {
-    let mut i: usize = 0;
-    while i < s.len() {
-        number(b" ", s[i] as u64);
-        i += 1;
-    }
+// The bytes of an area, the first last, as two numbers of eight; a byte past its end counts as 0.
+fn show_area(s: &[u8]) {
+    word(b" area ");
+    io::print_hex(1, endian::u64_at(s, 8), 16);
+    io::print_hex(1, endian::u64_at(s, 0), 16);
+    word(b"\n");
 }
 
 fn show_row(row: SummaryRow) {
@@ -79,17 +66,17 @@ fn show_row(row: SummaryRow) {
     number(b" length ", row.length);
 }
 
-// Writes the summary of the pages into an area, and shows the answer and the area.
-fn written(magic: u64, p: &[u8; 49152], lsn: u64, area: &mut [u8]) {
+// Writes the summary of pages into an area, and shows the answer and the area.
+fn written(name: &[u8], magic: u64, p: &[u8], lsn: u64, area: &mut [u8]) {
     let w = summary::write(magic, p, Lsn(lsn), area);
-    number(b" into ", area.len() as u64);
     let v = w.verdict;
+    word(name);
+    number(b" into ", area.len() as u64);
     number(b": ", v.number);
     number(b" at ", v.place);
     number(b", length ", w.length as u64);
     word(b",");
-    show_bytes(area);
-    word(b"\n");
+    show_area(area);
 }
 
 // Reads a file, and shows the answer.
@@ -130,20 +117,37 @@ fn step_of(file: &[u8], place: usize) {
 
 const EXAMPLE: [u8; 7] = [1, 172, 2, 1, 2, 0, 40];
 
-fn write_cases() {
-    let p = pages();
-    let mut area = [238u8; 9];
-    let mut n: usize = 0;
-    while n < 10 {
-        word(b"one row");
-        written(MAGIC, &p, 300, &mut area[..n]);
-        n += 1;
-    }
-    word(b"another magic");
-    written(1, &p, 300, &mut area[..0]);
-    word(b"the greatest LSN");
-    let mut long = [238u8; 16];
-    written(MAGIC, &p, 18446744073709551615, &mut long);
+fn write_cases(p: &[u8]) {
+    written(b"one row", MAGIC, p, 300, &mut [238u8; 0]);
+    written(b"one row", MAGIC, p, 300, &mut [238u8; 1]);
+    written(b"one row", MAGIC, p, 300, &mut [238u8; 2]);
+    written(b"one row", MAGIC, p, 300, &mut [238u8; 3]);
+    written(b"one row", MAGIC, p, 300, &mut [238u8; 4]);
+    written(b"one row", MAGIC, p, 300, &mut [238u8; 5]);
+    written(b"one row", MAGIC, p, 300, &mut [238u8; 6]);
+    written(b"one row", MAGIC, p, 300, &mut [238u8; 7]);
+    written(b"one row", MAGIC, p, 300, &mut [238u8; 8]);
+    written(b"one row", MAGIC, p, 300, &mut [238u8; 16]);
+}
+
+fn other_writes(p: &[u8]) {
+    written(b"another magic", 1, p, 300, &mut [238u8; 0]);
+    written(
+        b"the greatest LSN",
+        MAGIC,
+        p,
+        18446744073709551615,
+        &mut [238u8; 16],
+    );
+    written(
+        b"the greatest LSN",
+        MAGIC,
+        p,
+        18446744073709551615,
+        &mut [238u8; 14],
+    );
+    written(b"no pages", MAGIC, &[], 0, &mut [238u8; 3]);
+    written(b"no pages", MAGIC, &[], 0, &mut [238u8; 2]);
 }
 
 fn row_cases() {
@@ -162,40 +166,57 @@ fn row_cases() {
 // The example cut at every byte.
 fn cut_cases() {
     let e = EXAMPLE;
-    let mut n: usize = 0;
-    while n < 7 {
-        judged(b"cut", &e[..n]);
-        n += 1;
-    }
+    judged(b"cut at 0", &e[..0]);
+    judged(b"cut at 1", &e[..1]);
+    judged(b"cut at 2", &e[..2]);
+    judged(b"cut at 3", &e[..3]);
+    judged(b"cut at 4", &e[..4]);
+    judged(b"cut at 5", &e[..5]);
+    judged(b"cut at 6", &e[..6]);
 }
 
-// A last LSN of so many groups, the last of which is given.
-fn spelled(name: &[u8], groups: usize, last: u8)
-    requires { ⌜ groups < 32 ⌝ }
-{
-    let mut f = [128u8; 64];
-    f[0] = 1;
-    f[1 + groups] = last;
-    f[2 + groups] = 0;
-    number(name, 1 + groups as u64);
-    judged(b" groups", &f[..3 + groups]);
+// A last LSN of 1 to 10 groups.
+fn group_cases() {
+    judged(b"1 group", &[1, 1, 0]);
+    judged(b"2 groups", &[1, 128, 1, 0]);
+    judged(b"3 groups", &[1, 128, 128, 1, 0]);
+    judged(b"4 groups", &[1, 128, 128, 128, 1, 0]);
+    judged(b"5 groups", &[1, 128, 128, 128, 128, 1, 0]);
+    judged(b"6 groups", &[1, 128, 128, 128, 128, 128, 1, 0]);
+    judged(b"7 groups", &[1, 128, 128, 128, 128, 128, 128, 1, 0]);
+    judged(b"8 groups", &[1, 128, 128, 128, 128, 128, 128, 128, 1, 0]);
+    judged(
+        b"9 groups",
+        &[1, 128, 128, 128, 128, 128, 128, 128, 128, 1, 0],
+    );
+    judged(
+        b"10 groups",
+        &[1, 128, 128, 128, 128, 128, 128, 128, 128, 128, 1, 0],
+    );
 }
 
 fn spelling_cases() {
-    let mut n: usize = 0;
-    while n < 10 {
-        spelled(b"number of ", n, 1);
-        n += 1;
-    }
     judged(
         b"2^64 - 1",
         &[1, 255, 255, 255, 255, 255, 255, 255, 255, 255, 1, 0],
     );
-    spelled(b"2^64 in ", 9, 2);
-    spelled(b"2^70 in ", 10, 1);
-    spelled(b"trailing zero in ", 1, 0);
-    spelled(b"trailing zero in ", 9, 0);
-    spelled(b"trailing zero in ", 10, 0);
+    judged(
+        b"2^64",
+        &[1, 128, 128, 128, 128, 128, 128, 128, 128, 128, 2, 0],
+    );
+    judged(
+        b"11 groups",
+        &[1, 128, 128, 128, 128, 128, 128, 128, 128, 128, 128, 1, 0],
+    );
+    judged(b"2 groups, the last 0", &[1, 133, 0, 0]);
+    judged(
+        b"10 groups, the last 0",
+        &[1, 128, 128, 128, 128, 128, 128, 128, 128, 128, 0, 0],
+    );
+    judged(
+        b"11 groups, the last 0",
+        &[1, 128, 128, 128, 128, 128, 128, 128, 128, 128, 128, 0, 0],
+    );
     judged(b"edition with a zero group", &[129, 0, 5, 0]);
     judged(b"count with a zero group", &[1, 5, 128, 0]);
 }
@@ -287,9 +308,12 @@ fn long_cases() {
 }
 
 fn main() {
-    write_cases();
+    let p = pages();
+    write_cases(&p);
+    other_writes(&p);
     row_cases();
     cut_cases();
+    group_cases();
     spelling_cases();
     edition_cases();
     range_cases();

@@ -61,7 +61,9 @@ fn rows() {
             .map(|row| row.length)
             .sum::<u64>()
     });
-    let l = best(9, || library::summary_row(black_box(&summary), total - 1).page);
+    let l = best(9, || {
+        library::summary_row(black_box(&summary), total - 1).page
+    });
     for (what, seconds) in [
         ("written", w),
         ("read", r),
@@ -79,7 +81,10 @@ fn rows() {
 /// A summary of at least so many bytes that is not refused.
 fn long_summary(bytes: usize) -> Vec<u8> {
     let rows = bytes / 4;
-    let mut file: Vec<u8> = [1, 300, rows as u64].into_iter().flat_map(spelled).collect();
+    let mut file: Vec<u8> = [1, 300, rows as u64]
+        .into_iter()
+        .flat_map(spelled)
+        .collect();
     for row in 0..rows as u64 {
         file.extend([row / 4_000, row % 4_000, 24].into_iter().flat_map(spelled));
     }

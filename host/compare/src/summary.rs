@@ -86,9 +86,10 @@ fn write(subject: &mut Subject, seen: &mut Seen) -> Option<(u64, Vec<u8>)> {
             format!("summary_write into {length} bytes wrote outside the area")
         });
         if written.number == 0 {
-            seen.must((library.number == SUMMARY_AREA) == (length < needed), || {
-                format!("a summary of {needed} bytes into {length}: {library:?}")
-            });
+            seen.must(
+                (library.number == SUMMARY_AREA) == (length < needed),
+                || format!("a summary of {needed} bytes into {length}: {library:?}"),
+            );
         }
     }
     (written.number == 0).then(|| {
@@ -135,7 +136,11 @@ fn read(rng: &mut Rng, seen: &mut Seen, file: &[u8]) {
     }
     if library.number == 0 {
         let steps: Vec<[u64; 3]> = library::summary_rows(file, library)
-            .map(|SummaryStep { page, slot, length, .. }| [page, slot, length])
+            .map(
+                |SummaryStep {
+                     page, slot, length, ..
+                 }| [page, slot, length],
+            )
             .collect();
         let rows = oracle::summary_rows(file).unwrap_or_default();
         seen.items(format_args!("rows of {call}"), &steps, &rows);

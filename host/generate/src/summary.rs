@@ -49,9 +49,15 @@ const SPOILED: &[(&str, u64, fn(&mut Rng, &mut Draft) -> u64)] = &[
     ("number of 2^64 or more", 29, over_64_bits),
     ("number of eleven groups or more", 29, many_groups),
     ("another edition", 30, other_edition),
-    ("page of 4,096 or more", 31, |rng, draft| draft.outside(rng, 0, PAGES)),
-    ("slot of 4,080 or more", 31, |rng, draft| draft.outside(rng, 1, SLOTS)),
-    ("length over 16,316", 31, |rng, draft| draft.outside(rng, 2, LENGTHS)),
+    ("page of 4,096 or more", 31, |rng, draft| {
+        draft.outside(rng, 0, PAGES)
+    }),
+    ("slot of 4,080 or more", 31, |rng, draft| {
+        draft.outside(rng, 1, SLOTS)
+    }),
+    ("length over 16,316", 31, |rng, draft| {
+        draft.outside(rng, 2, LENGTHS)
+    }),
     ("length under 24", 31, too_short),
     ("page that falls", 32, page_falls),
     ("slot that does not rise", 32, slot_stays),
@@ -283,7 +289,8 @@ impl Draft {
     /// Gives a file of one row a second, which may be any.
     fn with_two_rows(&mut self) {
         if self.rows() == 1 {
-            self.spelled.extend([PAGES - 1, SLOTS - 1, SHORTEST].map(spelled));
+            self.spelled
+                .extend([PAGES - 1, SLOTS - 1, SHORTEST].map(spelled));
             self.put(2, 2);
         }
     }

@@ -325,9 +325,7 @@ pub fn summary_write(magic: u64, pages: &[u8], lsn: u64, area: &mut [u8]) -> Sum
 
 /// Judges a whole summary. Refuses 28 to 33.
 pub fn summary_read(file: &[u8]) -> Summary {
-    filled(|out, out_len| unsafe {
-        c::lq_summary_read(file.as_ptr(), file.len(), out, out_len)
-    })
+    filled(|out, out_len| unsafe { c::lq_summary_read(file.as_ptr(), file.len(), out, out_len) })
 }
 
 /// A row of a summary by its number from 0. Refuses as `summary_read` does: each call judges the whole file.

@@ -213,7 +213,9 @@ impl Parsed {
         let mut needed = self.command.options.iter().filter(|choice| choice.needed);
         match needed.find(|choice| !self.flag(choice.name)) {
             None => Ok(()),
-            Some(choice) => Err(self.wrong(format!("{} is missing: {}", choice.name, choice.about))),
+            Some(choice) => {
+                Err(self.wrong(format!("{} is missing: {}", choice.name, choice.about)))
+            }
         }
     }
 

@@ -197,11 +197,14 @@ fn find(words: &[OsString]) -> Result<Found<'_>, Failure> {
     };
     let group = || {
         let mut groups = commands::GROUPS.iter();
-        let (group, _) = groups.find(|(group, _)| Some(group.as_ref()) == words.first().map(OsString::as_os_str))?;
+        let (group, _) = groups
+            .find(|(group, _)| Some(group.as_ref()) == words.first().map(OsString::as_os_str))?;
         Some(Found::Group(group))
     };
     named(1).or_else(|| named(2)).or_else(group).ok_or_else(|| {
-        let word = words.first().map_or("".into(), |word| word.to_string_lossy());
+        let word = words
+            .first()
+            .map_or("".into(), |word| word.to_string_lossy());
         Failure::Usage(format!(
             "'{word}' is no command; `lumbraquay --help` lists them"
         ))
@@ -231,7 +234,9 @@ fn wrong_action(group: &str, word: Option<&OsString>) -> Failure {
 
 fn group_help(group: &str) -> String {
     let mut groups = commands::GROUPS.iter();
-    let about = groups.find(|(name, _)| *name == group).map_or("", |it| it.1);
+    let about = groups
+        .find(|(name, _)| *name == group)
+        .map_or("", |it| it.1);
     let mut text =
         format!("{about}\n\nUse: lumbraquay {group} ACTION [ARGUMENTS], where ACTION is\n");
     for (action, command) in actions(group) {
@@ -250,7 +255,9 @@ fn overview() -> String {
             None => text += &format!("  {:<9} {}\n", command.name, command.about),
             Some((group, action)) if actions(group).next().is_some_and(|it| it.0 == action) => {
                 let mut groups = commands::GROUPS.iter();
-                let about = groups.find(|(name, _)| *name == group).map_or("", |it| it.1);
+                let about = groups
+                    .find(|(name, _)| *name == group)
+                    .map_or("", |it| it.1);
                 text += &format!("  {group:<9} {about}\n");
             }
             Some(_) => (),

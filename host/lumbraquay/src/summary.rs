@@ -53,7 +53,9 @@ pub fn found(summary: &Summary, refused: u64, place: u64) -> String {
     let (name, before) = number(bytes, place);
     let shown = show::hex(&own[..own.len().min(SHOWN)]);
     let more = if own.len() > SHOWN { "..." } else { "" };
-    let is = value(own).map_or("a number over 64 bits".to_string(), |value| value.to_string());
+    let is = value(own).map_or("a number over 64 bits".to_string(), |value| {
+        value.to_string()
+    });
     match refused {
         refusal::SUMMARY_ENDS_EARLY if own.is_empty() => {
             format!("{} bytes, where {name} should follow", summary.length)
@@ -62,7 +64,9 @@ pub fn found(summary: &Summary, refused: u64, place: u64) -> String {
             "{} bytes, in which {name}, 0x{shown}{more}, has no last group",
             summary.length
         ),
-        refusal::SUMMARY_SPELLING => format!("{name} is 0x{shown}{more}, {is} in {} groups", own.len()),
+        refusal::SUMMARY_SPELLING => {
+            format!("{name} is 0x{shown}{more}, {is} in {} groups", own.len())
+        }
         refusal::SUMMARY_ORDER => {
             let row = match before.len().checked_sub(3 + (before.len() % 3)) {
                 Some(at) => format!(", behind page {} slot {}", before[at], before[at + 1]),

@@ -79,7 +79,9 @@ pub fn summary_write(magic: u64, pages: &[u8], lsn: u64, area: &mut [u8]) -> Sum
         Ok(rows) => rows,
         Err(Refusal { number, place }) => return refused(number, place),
     };
-    let rows = rows.iter().map(|[page, slot, length, _]| [*page, *slot, *length]);
+    let rows = rows
+        .iter()
+        .map(|[page, slot, length, _]| [*page, *slot, *length]);
     let bytes = file(lsn, &rows.collect::<Vec<_>>());
     if area.len() < bytes.len() {
         return refused(27, 0);
@@ -110,9 +112,10 @@ impl Numbers<'_> {
         if own.len() > 1 && own[last] == 0 || own.len() > 10 {
             return Err(self.fault(29));
         }
-        let value = own.iter().rev().fold(0u128, |value, group| {
-            value * 128 + u128::from(group & 0x7F)
-        });
+        let value = own
+            .iter()
+            .rev()
+            .fold(0u128, |value, group| value * 128 + u128::from(group & 0x7F));
         let value = u64::try_from(value).map_err(|_| self.fault(29))?;
         self.at += own.len();
         Ok(value)

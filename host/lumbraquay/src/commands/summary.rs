@@ -126,7 +126,12 @@ fn show(parsed: &Parsed, output: &mut Output) -> Result<(), Failure> {
     let limit = parsed.chosen_number("--limit")?.unwrap_or(u64::MAX);
     let limit = usize::try_from(limit).unwrap_or(usize::MAX);
     let summary = Summary::read(parsed)?;
-    unless_refused(parsed, output, summary.read.verdict(), Read::summary(&summary))?;
+    unless_refused(
+        parsed,
+        output,
+        summary.read.verdict(),
+        Read::summary(&summary),
+    )?;
     let shown = summary.rows().take(limit);
     if parsed.flag("--json") {
         let mut fields = head_fields(parsed, "done", summary.read.verdict());
@@ -219,7 +224,12 @@ impl<A: Iterator<Item = Row>, B: Iterator<Item = Row>> Iterator for Compared<A, 
 
 fn diff(parsed: &Parsed, output: &mut Output) -> Result<(), Failure> {
     let summary = Summary::read(parsed)?;
-    unless_refused(parsed, output, summary.read.verdict(), Read::summary(&summary))?;
+    unless_refused(
+        parsed,
+        output,
+        summary.read.verdict(),
+        Read::summary(&summary),
+    )?;
     let pages = Pages::read_at(parsed, 1)?;
     let verdict = library::verify(pages.magic, &pages.bytes);
     unless_refused(parsed, output, verdict, Read::pages(&pages))?;
@@ -238,7 +248,8 @@ fn diff(parsed: &Parsed, output: &mut Output) -> Result<(), Failure> {
         }
     }
     if parsed.flag("--json") {
-        let list = |rows: &[Row]| Json::List(rows.iter().map(|row| Json::Object(row.fields())).collect());
+        let list =
+            |rows: &[Row]| Json::List(rows.iter().map(|row| Json::Object(row.fields())).collect());
         let changed = changed.iter().map(|(then, now)| {
             let mut fields = then.fields();
             fields.push(("length_now", (*now).into()));

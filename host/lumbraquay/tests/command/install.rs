@@ -324,7 +324,9 @@ fn fish_completes() {
     };
     assert_eq!(first, sorted(first_words()));
     let second = ask("lumbraquay summary ");
-    assert!(second_words("summary").iter().all(|word| second.as_ref().unwrap().contains(word)));
+    assert!(second_words("summary")
+        .iter()
+        .all(|word| second.as_ref().unwrap().contains(word)));
     for name in commands() {
         let mut known = options(&name);
         known.retain(|name| name != "--help");

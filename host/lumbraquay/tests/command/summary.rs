@@ -49,7 +49,9 @@ fn changes_since_a_list_are_told() {
         .say("summary diff rows outage.pages")
         .done()
         .says(&["0 gone, 0 new, 0 changed in length, 6 as listed\n"]);
-    sandbox.say("recover outage.pages outage.log --quiet").done();
+    sandbox
+        .say("recover outage.pages outage.log --quiet")
+        .done();
     sandbox
         .say("summary diff rows outage.pages.recovered")
         .done()
@@ -101,7 +103,8 @@ fn lists_are_the_second_programs() {
             .say(&format!("rows pages --json --magic {magic}"))
             .done()
             .json();
-        let numbers = |row: &crate::json::Value| ["page", "slot", "length"].map(|it| row.number(it));
+        let numbers =
+            |row: &crate::json::Value| ["page", "slot", "length"].map(|it| row.number(it));
         let (shown, listed) = (shown.list("rows"), listed.list("rows"));
         assert!(shown.iter().map(numbers).eq(listed.iter().map(numbers)));
         rows += shown.len();
@@ -139,31 +142,79 @@ fn pages_that_are_not_good_are_refused() {
         "summary write torn --lsn 1 --out new",
         "summary diff rows torn",
     ] {
-        sandbox
-            .say(words)
-            .refuses(&["refused: 18 PAGE_CHECKSUM at page 1 of torn", "No file was changed."]);
+        sandbox.say(words).refuses(&[
+            "refused: 18 PAGE_CHECKSUM at page 1 of torn",
+            "No file was changed.",
+        ]);
     }
-    assert_eq!(sandbox.names(), ["outage.log", "outage.pages", "rows", "torn"]);
+    assert_eq!(
+        sandbox.names(),
+        ["outage.log", "outage.pages", "rows", "torn"]
+    );
 }
 
 /// A file, and what its refusal says.
 const REFUSED: [(&[u8], &str, &str); 12] = [
-    (&[], "28 SUMMARY_ENDS_EARLY at offset 0 of list", "0 bytes, where the edition should follow"),
-    (&[1, 0xAC], "28 SUMMARY_ENDS_EARLY at offset 1", "2 bytes, in which the last LSN, 0xac, has no last group"),
-    (&[1, 5, 1, 2], "28 SUMMARY_ENDS_EARLY at offset 4", "4 bytes, where the slot of row 0 should follow"),
-    (&[1, 0x85, 0], "29 SUMMARY_SPELLING at offset 1", "the last LSN is 0x8500, 5 in 2 groups"),
+    (
+        &[],
+        "28 SUMMARY_ENDS_EARLY at offset 0 of list",
+        "0 bytes, where the edition should follow",
+    ),
+    (
+        &[1, 0xAC],
+        "28 SUMMARY_ENDS_EARLY at offset 1",
+        "2 bytes, in which the last LSN, 0xac, has no last group",
+    ),
+    (
+        &[1, 5, 1, 2],
+        "28 SUMMARY_ENDS_EARLY at offset 4",
+        "4 bytes, where the slot of row 0 should follow",
+    ),
+    (
+        &[1, 0x85, 0],
+        "29 SUMMARY_SPELLING at offset 1",
+        "the last LSN is 0x8500, 5 in 2 groups",
+    ),
     (
         &[1, 128, 128, 128, 128, 128, 128, 128, 128, 128, 2, 0],
         "29 SUMMARY_SPELLING at offset 1",
         "the last LSN is 0x80808080808080808002, a number over 64 bits in 10 groups",
     ),
-    (&[2, 5, 0], "30 SUMMARY_EDITION at offset 0", "the edition is 2"),
-    (&[1, 5, 1, 0x80, 0x20, 0, 24], "31 SUMMARY_RANGE at offset 3", "the page of row 0 is 4096"),
-    (&[1, 5, 1, 0, 0xF0, 0x1F, 24], "31 SUMMARY_RANGE at offset 4", "the slot of row 0 is 4080"),
-    (&[1, 5, 1, 0, 0, 23], "31 SUMMARY_RANGE at offset 5", "the length of row 0 is 23"),
-    (&[1, 5, 2, 7, 5, 24, 6, 9, 24], "32 SUMMARY_ORDER at offset 6", "the page of row 1 is 6, behind page 7 slot 5"),
-    (&[1, 5, 2, 7, 5, 24, 7, 5, 24], "32 SUMMARY_ORDER at offset 7", "the slot of row 1 is 5, behind page 7 slot 5"),
-    (&[1, 5, 1, 7, 5, 24, 0, 0], "33 SUMMARY_LEFT_OVER at offset 6", "2 bytes behind the last row, 1 row"),
+    (
+        &[2, 5, 0],
+        "30 SUMMARY_EDITION at offset 0",
+        "the edition is 2",
+    ),
+    (
+        &[1, 5, 1, 0x80, 0x20, 0, 24],
+        "31 SUMMARY_RANGE at offset 3",
+        "the page of row 0 is 4096",
+    ),
+    (
+        &[1, 5, 1, 0, 0xF0, 0x1F, 24],
+        "31 SUMMARY_RANGE at offset 4",
+        "the slot of row 0 is 4080",
+    ),
+    (
+        &[1, 5, 1, 0, 0, 23],
+        "31 SUMMARY_RANGE at offset 5",
+        "the length of row 0 is 23",
+    ),
+    (
+        &[1, 5, 2, 7, 5, 24, 6, 9, 24],
+        "32 SUMMARY_ORDER at offset 6",
+        "the page of row 1 is 6, behind page 7 slot 5",
+    ),
+    (
+        &[1, 5, 2, 7, 5, 24, 7, 5, 24],
+        "32 SUMMARY_ORDER at offset 7",
+        "the slot of row 1 is 5, behind page 7 slot 5",
+    ),
+    (
+        &[1, 5, 1, 7, 5, 24, 0, 0],
+        "33 SUMMARY_LEFT_OVER at offset 6",
+        "2 bytes behind the last row, 1 row",
+    ),
 ];
 
 #[test]
@@ -175,11 +226,18 @@ fn refusals_say_what_stands_there() {
         for words in ["summary show list", "summary diff list outage.pages"] {
             let refused = format!("refused: {refused}");
             let found = format!("found:      {found}\n");
-            sandbox.say(words).refuses(&[&refused, &found, "No file was changed."]);
+            sandbox
+                .say(words)
+                .refuses(&[&refused, &found, "No file was changed."]);
             let told = sandbox.say(&format!("{words} --json")).ends(3).json();
             assert_eq!(told.text("result"), "refused");
             assert_eq!(told.text("place_is"), "offset in the summary");
-            let name = format!("{} {} at offset {}", told.number("number"), told.text("name"), told.number("place"));
+            let name = format!(
+                "{} {} at offset {}",
+                told.number("number"),
+                told.text("name"),
+                told.number("place")
+            );
             assert!(refused.contains(&name), "{name}");
         }
         assert!(sandbox.contents() == before);
@@ -190,10 +248,19 @@ fn refusals_say_what_stands_there() {
 fn words_of_two_word_commands() {
     let sandbox = Sandbox::with_outage();
     for (words, text) in [
-        ("summary", "summary needs one of write, show, diff behind it"),
+        (
+            "summary",
+            "summary needs one of write, show, diff behind it",
+        ),
         ("summary mend", "'mend' is none of write, show, diff"),
-        ("summary write outage.pages --out x", "--lsn is missing: the last LSN"),
-        ("summary write outage.pages --lsn 1", "--out is missing: the new file"),
+        (
+            "summary write outage.pages --out x",
+            "--lsn is missing: the last LSN",
+        ),
+        (
+            "summary write outage.pages --lsn 1",
+            "--out is missing: the new file",
+        ),
         ("summary write --lsn 1 --out x", "PAGES is missing"),
         ("summary show", "FILE is missing"),
         ("summary diff outage.log", "PAGES is missing"),
@@ -202,7 +269,12 @@ fn words_of_two_word_commands() {
         sandbox.say(words).fails(&[text]);
     }
     let group = sandbox.say("summary --help").done();
-    let group = group.says(&["Use: lumbraquay summary ACTION", "  write ", "  show ", "  diff "]);
+    let group = group.says(&[
+        "Use: lumbraquay summary ACTION",
+        "  write ",
+        "  show ",
+        "  diff ",
+    ]);
     assert_eq!(sandbox.say("help summary").done().out, group.out);
     assert_eq!(
         sandbox.say("help summary diff").done().out,

@@ -109,7 +109,13 @@ fn spellings() {
     }
     let most = [[0xFF; 9].as_slice(), &[1]].concat();
     assert_eq!(summary_read(&with_lsn(&most)).lsn, u64::MAX);
-    for wrong in [long(10, 2), long(11, 1), long(2, 0), long(10, 0), long(1000, 0)] {
+    for wrong in [
+        long(10, 2),
+        long(11, 1),
+        long(2, 0),
+        long(10, 0),
+        long(1000, 0),
+    ] {
         assert_eq!(summary_read(&with_lsn(&wrong)), refused(29, 1), "{wrong:?}");
     }
     // A number that does not end is 28, however long it is.
