@@ -14,14 +14,15 @@ use Rattle.refusals.specs.Verdict.{verdict, accepted, _then_}
 use Rattle.refusals.specs.declared.Verdict.{Verdict}
 use Rattle.refusals.proofs.Then.{then-refused, then-accepted, then-zero}
 use Rattle.page.specs.Fault.{verdictOf}
-use Rattle.summary.specs.Number.{valueAt, anyNumber, put}
-use Rattle.summary.specs.Summary.{summaryFile, writeVerdict, written, areaAfter, pageRule, slotRule, lengthRule, second, third, behind, headVerdict, rowVerdict, rowsVerdict, fileVerdict, judgedRow, lsnOf, countOf, rowAt, rowsOf, answered, summaryOf, noRow, numberedRow, stepVerdict, stepOf, stepRows}
+use Rattle.summary.specs.Number.{valueAt, anyNumber}
+use Rattle.summary.specs.Summary.{summaryFile, writeVerdict, written, areaAfter, pageRule, slotRule, lengthRule, second, third, behind, headVerdict, rowVerdict, rowsVerdict, fileVerdict, lsnOf, countOf, rowAt, rowsOf, answered, summaryOf, noRow, numberedRow, stepVerdict, stepOf, stepRows}
 use Rattle.summary.specs.declared.Written.{Written}
 use Rattle.summary.specs.declared.Summary.{Summary}
 use Rattle.summary.specs.declared.SummaryRow.{SummaryRow}
 use Rattle.summary.specs.declared.SummaryStep.{SummaryStep}
 use Rattle.summary.specs.declared.NumberedRow.{NumberedRow}
 use Rattle.summary.specs.declared.JudgedRow.{JudgedRow}
+use Rattle.summary.specs.Inner.{put, judgedRow}
 use Rattle.summary.proofs.RowBytes.{put-front}
 use Rattle.summary.proofs.RuleLaws.{slot-low}
 use Rattle.summary.proofs.FileLaws.{accepted-three, file-accepted, row-there, row-past}

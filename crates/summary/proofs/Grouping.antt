@@ -13,7 +13,8 @@ use lib.Dec.{ltb}
 use borrow.Author.Tests.{lt-ltb, le-ltb}
 use Rattle.endian.specs.Pick.{pick}
 use Rattle.endian.proofs.Places.{paste-two}
-use Rattle.summary.specs.Number.{groupsIn, groups, put}
+use Rattle.summary.specs.Number.{groupsIn, groups}
+use Rattle.summary.specs.Inner.{put}
 
 -- ---- one group after another
 

@@ -17,9 +17,10 @@ use Rattle.endian.proofs.Bytes.{bytes-drop}
 use Rattle.endian.proofs.Places.{drop-part}
 use Rattle.refusals.specs.Verdict.{verdict, accepted}
 use Rattle.refusals.specs.declared.Verdict.{Verdict}
-use Rattle.summary.specs.Number.{groups, continued, spelling, valueOf, valueAt, afterAt, endsEarly, misspelt, Ends, refusalAt, anyNumber, numberAt}
+use Rattle.summary.specs.Number.{groups, continued, spelling, valueOf, valueAt, afterAt, endsEarly, misspelt, refusalAt, anyNumber}
 use Rattle.summary.specs.Summary.{numberVerdict}
 use Rattle.summary.specs.declared.Number.{Number}
+use Rattle.summary.specs.Inner.{Ends, numberAt}
 use Rattle.summary.proofs.Spelling.{topOf, Whole, last-here, goes-on, continued-le, length-spelling, spelt-one, spelt-zero, spelt-nine, spelt-over, spelt-ten, well-spelt}
 
 -- ---- the search for the last group

@@ -14,8 +14,9 @@ use Rattle.page.specs.declared.NextRow.{NextRow}
 use Rattle.page.specs.declared.NextRow.the-variants.{At}
 use Rattle.page.proofs.RowLists.{row-next, rows-all}
 use Rattle.page.proofs.RowBounds.{Stands, AllStand, rows-stand, rows-few}
-use Rattle.summary.specs.Number.{groups, put}
+use Rattle.summary.specs.Number.{groups}
 use Rattle.summary.specs.Summary.{edition, headOf, rowBytes, rowsBytes, fileOf, shortened, summaryRows, summaryFile}
+use Rattle.summary.specs.Inner.{put}
 use Rattle.summary.proofs.Grouping.{groups-ten, length-put, put-two}
 
 -- ---- three numbers, one behind the other

@@ -6,9 +6,10 @@ use mathlib.Core.List.{List}
 use Rattle.refusals.specs.Verdict.{verdict, accepted, _then_}
 use Rattle.refusals.specs.declared.Verdict.{Verdict}
 use Rattle.refusals.proofs.Then.{then-refused, then-accepted}
-use Rattle.summary.specs.Number.{valueAt, afterAt, numberAt}
+use Rattle.summary.specs.Number.{valueAt, afterAt}
 use Rattle.summary.specs.Summary.{numberVerdict, second, third, behind, threeVerdict}
 use Rattle.summary.specs.declared.Number.{Number}
+use Rattle.summary.specs.Inner.{numberAt}
 use Rattle.summary.proofs.Places.{read-is, read-refused, read-accepted}
 
 abbrev valueIn : Number → ℕ

@@ -1,14 +1,11 @@
 -- Numbers in groups of seven bits, lowest group first, the high bit set on all groups but the last, in the fewest groups (paper 02, W6).
-use Prim.Native.Nat.{ℕ, zero, suc, _+_, _*_, _/_, _%_, _^_, _<_}
-use mathlib.Core.Path.{_≡_}
+use Prim.Native.Nat.{ℕ, zero, suc, _+_, _*_, _/_, _%_, _^_}
 use mathlib.Core.List.{List, [], _∷_}
 use mathlib.Core.Bool.{Bool, true}
 use lib.ListN.{length, take, drop}
-use lib.Dec.{ltb, leb, eqb}
-use lib.Seq.{paste}
+use lib.Dec.{ltb, leb}
 use Rattle.endian.specs.Pick.{pick}
 use Rattle.refusals.specs.Refusal.{summaryEndsEarly, summarySpelling}
-use Rattle.summary.specs.declared.Number.{Number}
 
 -- ---- writing
 
@@ -20,10 +17,6 @@ groupsIn (suc w) n = pick (ltb n 128) (n ∷ []) ((128 + n % 128) ∷ groupsIn w
 -- n in the fewest groups, which are at most n + 1
 unfoldable pub groups : ℕ → List ℕ
 groups n = groupsIn (suc n) n
-
--- d with x stored from `at` on
-abbrev pub put : List ℕ → ℕ → List ℕ → List ℕ
-put d at x = paste d at x (length x)
 
 -- ---- reading
 
@@ -56,11 +49,6 @@ endsEarly t = leb (length t) (continued t)
 unfoldable pub misspelt : List ℕ → Bool
 misspelt g = pick (ltb (length (groups (valueOf g))) (length g)) true (leb (2 ^ 64) (valueOf g))
 
--- the last group of the number at place p stands at `end`
-pub record Ends (f : List ℕ) (p end : ℕ) : Type 0 where
-  pub at : end ≡ p + continued (drop p f)
-  pub within : end < length f
-
 -- what the number at place p is refused by, 0 for nothing: 28, 29, then what a rule says of the number
 unfoldable pub refusalAt : (ℕ → ℕ) → List ℕ → ℕ → ℕ
 refusalAt rule f p =
@@ -71,10 +59,3 @@ refusalAt rule f p =
 -- the rule that every number keeps
 abbrev pub anyNumber : ℕ → ℕ
 anyNumber n = 0
-
--- a number as it is read under a rule: refused, it is 0 and the place stays
-unfoldable pub numberAt : (ℕ → ℕ) → List ℕ → ℕ → Number
-numberAt rule f p =
-    pick (eqb (refusalAt rule f p) 0)
-    (record { refusal = 0; value = valueAt f p; after = afterAt f p })
-    (record { refusal = refusalAt rule f p; value = 0; after = p })

@@ -18,7 +18,6 @@ use Rattle.summary.specs.declared.Written.{Written}
 use Rattle.summary.specs.declared.Summary.{Summary}
 use Rattle.summary.specs.declared.NumberedRow.{NumberedRow}
 use Rattle.summary.specs.declared.SummaryStep.{SummaryStep}
-use Rattle.summary.specs.declared.JudgedRow.{JudgedRow}
 
 abbrev pub edition : ℕ
 edition = 1
@@ -123,13 +122,6 @@ rowsVerdict (suc n) page slot f p = rowVerdict page slot f p then rowsVerdict n 
 -- the whole file
 unfoldable pub fileVerdict : List ℕ → Verdict
 fileVerdict f = headVerdict f then rowsVerdict (valueAt f (third f 0)) 0 0 f (behind f 0)
-
--- the same of one row, with what the next is judged by
-unfoldable pub judgedRow : ℕ → ℕ → List ℕ → ℕ → JudgedRow
-judgedRow page slot f p =
-    pick (eqb (rowVerdict page slot f p .number) 0)
-    (record { verdict = accepted; page = valueAt f p; slot = valueAt f (second f p); after = behind f p })
-    (record { verdict = rowVerdict page slot f p; page = 0; slot = 0; after = 0 })
 
 -- ---- what a file says
 

@@ -2,7 +2,8 @@
 ghost use mathlib.Core.Path.{_≡_};
 ghost use Prim.Native.Nat.{_+_, _^_, _≤_, _<_};
 ghost use lib.ListN.{length, drop};
-ghost use Rattle.summary.specs.Number.{Ends, anyNumber, continued, groups, misspelt, numberAt, put, spelling, valueAt};
+ghost use Rattle.summary.specs.Number.{anyNumber, continued, groups, misspelt, spelling, valueAt};
+ghost use Rattle.summary.specs.Inner.{put, Ends, numberAt};
 use crate::Number;
 use refusals::SUMMARY_ENDS_EARLY;
 use refusals::SUMMARY_SPELLING;

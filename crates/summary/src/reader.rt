@@ -2,8 +2,8 @@
 ghost use mathlib.Core.Path.{_≡_};
 ghost use lib.ListN.{getD};
 ghost use Prim.Native.Nat.{suc};
-ghost use Rattle.summary.specs.Number.{numberAt};
-ghost use Rattle.summary.specs.Summary.{answered, editionRule, headVerdict, judgedRow, lengthRule, noRow, pageRule, rowsVerdict, slotRule, stepOf, stepRows};
+ghost use Rattle.summary.specs.Summary.{answered, editionRule, headVerdict, lengthRule, noRow, pageRule, rowsVerdict, slotRule, stepOf, stepRows};
+ghost use Rattle.summary.specs.Inner.{numberAt, judgedRow};
 use crate::JudgedRow;
 use crate::Number;
 use crate::Summary;

@@ -9,7 +9,7 @@ use Rattle.capi.proofs.lq_summary_write.Tie as tie
 returns : tie.Need-returns
 returns c =
     let g = c .before .before in
-    let e = g .before .before .before .before .before .write .ensures in
+    let e = g .before .before .before .before .before .before .write .ensures in
     (given-as _ _ (g .give .ensures) (ap writtenNumbers (e .0)), e .1)
 
 pub lq-summary-write-spec : {M : Type 1} → statement M

@@ -2,7 +2,7 @@
 
 use crate::sandbox::Sandbox;
 
-const COMMANDS: [&str; 13] = [
+pub const COMMANDS: [&str; 13] = [
     "demo",
     "recover",
     "verify",

@@ -2,10 +2,10 @@ use mathlib.Core.Path.{sym, ap, _∙_}
 use Prim.Native.Nat.{ℕ, _+_}
 use borrow.Author.Needs.{needs}
 use Rattle.endian.specs.Numbers.{Bytes}
-use Rattle.summary.specs.Number.{Ends}
 use Rattle.summary.proofs.Places.{taken, read-early, read-misspelt, value-fits, read-well}
 use Rattle.summary.proofs.numbers.read.Statement.{statement}
 use Rattle.summary.proofs.numbers.read.Tie as tie
+use Rattle.summary.specs.Inner.{Ends}
 
 bytes : (c : tie.After-shared-slice-known) → Bytes (c .before .args .file .now)
 bytes c = record { at = λ i. c .shared-slice-known .given i .fits }

@@ -7,8 +7,8 @@ use Rattle.page.specs.Rows.{visibleRows, rowsAt, firstAt}
 use Rattle.page.specs.declared.NextRow.the-variants.{At}
 use Rattle.page.proofs.RowLists.{row-next, row-none}
 use Rattle.page.proofs.RowBounds.{slot-low}
-use Rattle.summary.specs.Number.{put}
 use Rattle.summary.specs.Summary.{rowsBytes, summaryRows}
+use Rattle.summary.specs.Inner.{put}
 use Rattle.summary.proofs.Grouping.{put-none}
 use Rattle.summary.proofs.RowBytes.{restBytes, rest-all, rest-none, row-room, put-length, put-room, put-rest}
 use Rattle.summary.proofs.writer.put_rows.Statement.{statement}
