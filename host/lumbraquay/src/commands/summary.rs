@@ -142,13 +142,18 @@ fn show(parsed: &Parsed, output: &mut Output) -> Result<(), Failure> {
     }
     output.line(summary.line())?;
     output.line("  page   slot  length")?;
+    let mut count = 0;
     for row in shown {
+        count += 1;
         output.line(format_args!(
             "{:>6}  {:>5}  {:>6}",
             row.page, row.slot, row.length
         ))?;
     }
-    output.line(rows(summary.read.count))
+    match summary.read.count {
+        all if all == count => output.line(rows(all)),
+        all => output.line(format_args!("{count} of {}", rows(all))),
+    }
 }
 
 /// A row of either side.

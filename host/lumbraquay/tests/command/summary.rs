@@ -28,6 +28,7 @@ fn a_list_is_written_and_shown() {
     ]);
     let few = sandbox.say("summary show rows --limit 1").done();
     assert_eq!(few.out.lines().count(), 4);
+    few.says(&["\n1 of 6 visible rows\n"]);
     let shown = sandbox.say("summary show rows --json").done().json();
     assert_eq!(shown.text("command"), "summary show");
     assert_eq!((shown.number("lsn"), shown.number("count")), (114, 6));
