@@ -8,7 +8,7 @@ use library::{Listed, SummaryStep};
 use crate::advice::unless_refused;
 use crate::args::{Choice, Command, Parsed, JSON, MAGIC, QUIET};
 use crate::failure::Failure;
-use crate::files::{self, is_standard, STANDARD};
+use crate::files::{self, is_standard};
 use crate::input::{head_fields, Pages, Read, Summary};
 use crate::json::Json;
 use crate::memory;
@@ -107,7 +107,7 @@ fn write(parsed: &Parsed, output: &mut Output) -> Result<(), Failure> {
         return output.line(Json::Object(fields));
     }
     output.line(pages.line())?;
-    let to = match out == STANDARD.as_ref() as &std::path::Path {
+    let to = match is_standard(out) {
         true => "standard output".to_string(),
         false => out.display().to_string(),
     };
