@@ -214,8 +214,8 @@ enum lq_read_row_answer {
 /* Where a row's payload stands. */
 enum lq_source { LQ_FROM_NOWHERE = 0, LQ_FROM_LOG = 1, LQ_FROM_PAGES = 2 };
 
-/* The first row with deleted byte 0 on a page of type 1, at or after a slot of a page. Refuses as lq_verify does: each
- * call checks every page. */
+/* The first visible row at or after a slot of a page: one with deleted byte 0 and xmax 0, on a page of type 1. Refuses
+ * as lq_verify does: each call checks every page. */
 void lq_next_visible(uint64_t magic, const uint8_t *pages, size_t len, uint64_t page, uint16_t slot, uint64_t *out,
                      size_t out_len);
 
@@ -231,9 +231,9 @@ enum lq_next_visible_answer {
 };
 #define LQ_NEXT_VISIBLE_NUMBERS 7
 
-/* The rows with deleted byte 0 on pages of type 1, from a slot of a page on, as many as rows has room for:
- * rows_len / LQ_ROW_NUMBERS; later numbers stay. Refuses as lq_verify does: each call checks every page, so lend room
- * for many. To go on, call again from the page and slot that are given back. */
+/* The visible rows from a slot of a page on, as many as rows has room for: rows_len / LQ_ROW_NUMBERS; later numbers
+ * stay. Refuses as lq_verify does: each call checks every page, so lend room for many. To go on, call again from the
+ * page and slot that are given back. */
 void lq_list_visible(uint64_t magic, const uint8_t *pages, size_t len, uint64_t page, uint16_t slot, uint64_t *rows,
                      size_t rows_len, uint64_t *out, size_t out_len);
 
@@ -245,6 +245,11 @@ enum lq_list_visible_answer {
     LQ_LIST_VISIBLE_SLOT = 4   /* its slot; 0 */
 };
 #define LQ_LIST_VISIBLE_NUMBERS 5
+
+/* The cancelled rows from a slot of a page on: those that lq_list_visible passes over, with deleted byte 1 or an xmax
+ * other than 0. Rows, answer and refusals are as there. */
+void lq_list_cancelled(uint64_t magic, const uint8_t *pages, size_t len, uint64_t page, uint16_t slot, uint64_t *rows,
+                       size_t rows_len, uint64_t *out, size_t out_len);
 
 /* A row of a listing. */
 enum lq_row {

@@ -95,7 +95,7 @@ rowNumbers NoMore = 0 ∷ 0 ∷ 0 ∷ 0 ∷ 0 ∷ 0 ∷ 0 ∷ []
 unfoldable pub nextVisibleNumbers : ℕ → List ℕ → ℕ → ℕ → List ℕ
 nextVisibleNumbers magic pages page slot = rowNumbers (nextRow magic pages page slot)
 
--- lq_list_visible: number, place, rows given, page and slot to go on from
+-- lq_list_visible, lq_list_cancelled: number, place, rows given, page and slot to go on from
 abbrev pub listNumbers : RowList → List ℕ
 listNumbers l = l .verdict .number ∷ l .verdict .place ∷ l .count ∷ l .page .0 ∷ l .slot ∷ []
 

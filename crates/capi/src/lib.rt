@@ -6,7 +6,7 @@ ghost use Rattle.wal.specs.Read.{found};
 ghost use Rattle.wal.specs.declared.Before.the-variants.{Found, Nothing};
 ghost use Prim.Native.Nat.{_/_};
 ghost use lib.ListN.{length};
-ghost use Rattle.page.specs.Rows.{numbersPerRow, rowList, rowsAfter};
+ghost use Rattle.page.specs.Rows.{visibleRows, cancelledRows, numbersPerRow, rowList, rowsAfter};
 ghost use Rattle.page.specs.FreeMap.{mapAfter};
 ghost use Rattle.capi.specs.Answers.{version, given, openNumbers, stepNumbers, kindForward, kindBackward, forwardNumbers, backwardNumbers, verifyNumbers, verifyFromNumbers, rowNumbers, nextVisibleNumbers, listNumbers, freeMapNumbers, answerNumbers, locatedNumbers, readRowNumbers, writtenNumbers, summaryNumbers, numberedNumbers, summaryStepNumbers};
 ghost use Rattle.recovery.specs.Flat.{recoverFlat};
@@ -209,10 +209,27 @@ pub extern "C" fn lq_list_visible(
     rows: &mut [u64],
     out: &mut [u64],
 )
-    ensures { λ _. ⌜ now (out .exit) ≡ given (listNumbers (rowList magic (now (pages .entry)) page slot (length (now (rows .entry)) / numbersPerRow))) (now (out .entry)) ⌝ }
-    ensures { λ _. ⌜ now (rows .exit) ≡ rowsAfter magic (now (pages .entry)) page slot (now (rows .entry)) ⌝ }
+    ensures { λ _. ⌜ now (out .exit) ≡ given (listNumbers (rowList magic (now (pages .entry)) (visibleRows (now (pages .entry))) page slot (length (now (rows .entry)) / numbersPerRow))) (now (out .entry)) ⌝ }
+    ensures { λ _. ⌜ now (rows .exit) ≡ rowsAfter magic (now (pages .entry)) (visibleRows (now (pages .entry))) page slot (now (rows .entry)) ⌝ }
 {
     let l = page::list_visible(magic, pages, PageNumber(page), slot as usize, rows);
+    give(&list_numbers(l), out);
+}
+
+// The cancelled rows, which that listing passes over, in the same way.
+#[no_mangle]
+pub extern "C" fn lq_list_cancelled(
+    magic: u64,
+    pages: &[u8],
+    page: u64,
+    slot: u16,
+    rows: &mut [u64],
+    out: &mut [u64],
+)
+    ensures { λ _. ⌜ now (out .exit) ≡ given (listNumbers (rowList magic (now (pages .entry)) (cancelledRows (now (pages .entry))) page slot (length (now (rows .entry)) / numbersPerRow))) (now (out .entry)) ⌝ }
+    ensures { λ _. ⌜ now (rows .exit) ≡ rowsAfter magic (now (pages .entry)) (cancelledRows (now (pages .entry))) page slot (now (rows .entry)) ⌝ }
+{
+    let l = page::list_cancelled(magic, pages, PageNumber(page), slot as usize, rows);
     give(&list_numbers(l), out);
 }
 

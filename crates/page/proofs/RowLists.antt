@@ -1,4 +1,4 @@
--- Visible rows one after another from a place on, and many of them stored as numbers.
+-- The rows of a listing one after another from a place on, and many of them stored as numbers.
 -- Assumes nothing.
 use mathlib.Core.Path.{_≡_, refl, sym, ap, _∙_}
 use mathlib.Core.Logic.{_⊎_, inl, inr}
@@ -15,7 +15,7 @@ use types.Run.{OneOf, miss}
 use denote.Enum.Declared.{tagOf}
 use Rattle.endian.specs.Pick.{pick, consIf}
 use Rattle.page.specs.Layout.{dataType, pagesIn, pageAt, typeOf, countOf, slotAt}
-use Rattle.page.specs.Rows.{visible, row, slotRows, pageRows, rowsFrom, visibleRows, atOrAfter, firstAt, rowsAt, Listable, numbersOf, numbersPerRow, numbersOfAll, listed, listOf, listAfter, noList, rowList, rowsAfter}
+use Rattle.page.specs.Rows.{row, slotRows, pageRows, rowsFrom, rowsOf, atOrAfter, firstAt, rowsAt, Listable, numbersOf, numbersPerRow, numbersOfAll, listed, listOf, listAfter, noList, rowList, rowsAfter}
 use Rattle.page.specs.Fault.{verdictOf}
 use Rattle.refusals.specs.declared.Verdict.{Verdict}
 use Rattle.page.specs.declared.Row.{Row}
@@ -67,28 +67,29 @@ lower i k i′ k′ (r ∷ rs) h u = (go h (u .0), u .1)
     go (inr a) (inl b) = inl (omega arith)
     go (inr a) (inr b) = inr (omega arith, omega arith)
 
--- the slots of a page, then later pages
-rising-slots : (i : ℕ) (p : List ℕ) (n k : ℕ) (rest : List Row) → Rising (suc i) 0 rest → Rising i k (slotRows i p n k ++ rest)
-unfolding slotRows
-rising-slots i p zero k rest u = lower (suc i) 0 i k rest (inl (omega arith)) u
-rising-slots i p (suc n) k rest u = go (visible (slotAt p k)) (rising-slots i p n (suc k) rest u)
-  where
-    go : (t : Bool) → Rising i (suc k) (slotRows i p n (suc k) ++ rest) → Rising i k (consIf t (row i k p) (slotRows i p n (suc k)) ++ rest)
-    go true v = (inr (refl, omega arith), v)
-    go false v = lower i (suc k) i k (slotRows i p n (suc k) ++ rest) (inr (refl, omega arith)) v
+module _ (shows : List ℕ → Bool) where
+  -- the slots of a page, then later pages
+  rising-slots : (i : ℕ) (p : List ℕ) (n k : ℕ) (rest : List Row) → Rising (suc i) 0 rest → Rising i k (slotRows shows i p n k ++ rest)
+  unfolding slotRows
+  rising-slots i p zero k rest u = lower (suc i) 0 i k rest (inl (omega arith)) u
+  rising-slots i p (suc n) k rest u = go (shows (slotAt p k)) (rising-slots i p n (suc k) rest u)
+    where
+      go : (t : Bool) → Rising i (suc k) (slotRows shows i p n (suc k) ++ rest) → Rising i k (consIf t (row i k p) (slotRows shows i p n (suc k)) ++ rest)
+      go true v = (inr (refl, omega arith), v)
+      go false v = lower i (suc k) i k (slotRows shows i p n (suc k) ++ rest) (inr (refl, omega arith)) v
 
-rising-page : (i : ℕ) (p : List ℕ) (rest : List Row) → Rising (suc i) 0 rest → Rising i 0 (pageRows i p ++ rest)
-unfolding pageRows
-rising-page i p rest u = go (eqb (typeOf p) dataType)
-  where
-    go : (t : Bool) → Rising i 0 (pick t (slotRows i p (countOf p) 0) [] ++ rest)
-    go true = rising-slots i p (countOf p) 0 rest u
-    go false = lower (suc i) 0 i 0 rest (inl (omega arith)) u
+  rising-page : (i : ℕ) (p : List ℕ) (rest : List Row) → Rising (suc i) 0 rest → Rising i 0 (pageRows shows i p ++ rest)
+  unfolding pageRows
+  rising-page i p rest u = go (eqb (typeOf p) dataType)
+    where
+      go : (t : Bool) → Rising i 0 (pick t (slotRows shows i p (countOf p) 0) [] ++ rest)
+      go true = rising-slots i p (countOf p) 0 rest u
+      go false = lower (suc i) 0 i 0 rest (inl (omega arith)) u
 
-pub rising-pages : (s : List ℕ) (n i : ℕ) → Rising i 0 (rowsFrom s n i)
-unfolding rowsFrom
-rising-pages s zero i = tt
-rising-pages s (suc n) i = rising-page i (pageAt i s) (rowsFrom s n (suc i)) (rising-pages s n (suc i))
+  pub rising-pages : (s : List ℕ) (n i : ℕ) → Rising i 0 (rowsFrom shows s n i)
+  unfolding rowsFrom
+  rising-pages s zero i = tt
+  rising-pages s (suc n) i = rising-page i (pageAt i s) (rowsFrom shows s n (suc i)) (rising-pages s n (suc i))
 
 -- ---- one row after another
 
@@ -104,8 +105,8 @@ module _ (i k : ℕ) where
       down (inr p) = inr (sym (p .0), omega arith)
 
 -- from slot 0 of page 0 on there are all
-pub rows-all : (s : List ℕ) → rowsAt 0 0 (visibleRows s) ≡ visibleRows s
-rows-all s = all-at 0 0 (visibleRows s) (rising-pages s (pagesIn s) 0)
+pub rows-all : (shows : List ℕ → Bool) (s : List ℕ) → rowsAt 0 0 (rowsOf shows s) ≡ rowsOf shows s
+rows-all shows s = all-at 0 0 (rowsOf shows s) (rising-pages shows s (pagesIn s) 0)
 
 abbrev headOr : Row → List Row → Row
 headOr d [] = d
@@ -196,17 +197,17 @@ head-none : (l : List Row) → OneOf (0 ∷ 2 ∷ []) (tagOf the-type (headRow l
 head-none [] o = refl
 head-none (r ∷ l) o = absurd (miss (0 ∷ 2 ∷ []) 1 tt o)
 
-module _ (s : List ℕ) (i k : ℕ) where
+module _ (shows : List ℕ → Bool) (s : List ℕ) (i k : ℕ) where
   -- a search meets a row, and goes on behind it
-  pub row-next : (r : Row) → firstAt i k (visibleRows s) ≡ At r → rowsAt i k (visibleRows s) ≡ r ∷ rowsAt (r .page .0) (r .slot + 1) (visibleRows s)
+  pub row-next : (r : Row) → firstAt i k (rowsOf shows s) ≡ At r → rowsAt i k (rowsOf shows s) ≡ r ∷ rowsAt (r .page .0) (r .slot + 1) (rowsOf shows s)
   row-next r e =
-      let h : rowsAt i k (visibleRows s) ≡ r ∷ tailOf (rowsAt i k (visibleRows s)) = head-at (rowsAt i k (visibleRows s)) r (sym (first-is i k (visibleRows s)) ∙ e) in
+      let h : rowsAt i k (rowsOf shows s) ≡ r ∷ tailOf (rowsAt i k (rowsOf shows s)) = head-at (rowsAt i k (rowsOf shows s)) r (sym (first-is i k (rowsOf shows s)) ∙ e) in
       let z : suc (r .slot) ≡ r .slot + 1 = omega arith in
-      h ∙ ap (λ (x : List Row). r ∷ x) (rw (← z) (goes-on i k r (tailOf (rowsAt i k (visibleRows s))) 0 0 (visibleRows s) (rising-pages s (pagesIn s) 0) h))
+      h ∙ ap (λ (x : List Row). r ∷ x) (rw (← z) (goes-on i k r (tailOf (rowsAt i k (rowsOf shows s))) 0 0 (rowsOf shows s) (rising-pages shows s (pagesIn s) 0) h))
 
   -- or meets none, as a `let .. else` finds it
-  pub row-none : (x : NextRow) → x ≡ firstAt i k (visibleRows s) → OneOf (0 ∷ 2 ∷ []) (tagOf the-type x) → rowsAt i k (visibleRows s) ≡ []
-  row-none x e o = head-none (rowsAt i k (visibleRows s)) (rw (e ∙ first-is i k (visibleRows s)) at o)
+  pub row-none : (x : NextRow) → x ≡ firstAt i k (rowsOf shows s) → OneOf (0 ∷ 2 ∷ []) (tagOf the-type x) → rowsAt i k (rowsOf shows s) ≡ []
+  row-none x e o = head-none (rowsAt i k (rowsOf shows s)) (rw (e ∙ first-is i k (rowsOf shows s)) at o)
 
 -- ---- rows as numbers
 
@@ -228,9 +229,9 @@ row-stored d at r l =
     rw (a, b, c) (sets-eq (numbersOf r) d at l)
 
 -- from slot k₀ of page i₀ on some rows were given and stored as m numbers, and slot k of page i is where to go on
-pub record Given (s out₀ : List ℕ) (i₀ k₀ i k m : ℕ) (out : List ℕ) : Type 0 where
+pub record Given (shows : List ℕ → Bool) (s out₀ : List ℕ) (i₀ k₀ i k m : ℕ) (out : List ℕ) : Type 0 where
   pub done : List Row
-  pub goes : done ++ rowsAt i k (visibleRows s) ≡ rowsAt i₀ k₀ (visibleRows s)
+  pub goes : done ++ rowsAt i k (rowsOf shows s) ≡ rowsAt i₀ k₀ (rowsOf shows s)
   pub stored : out ≡ numbersOfAll done ++ drop m out₀
   pub many : m ≡ numbersPerRow * length done
   pub room : m ≤ length out₀
@@ -242,16 +243,16 @@ cut all done rest n e (inr p) =
     let z : all ≡ done = sym e ∙ ap (λ (x : List Row). done ++ x) (p .0) ∙ append-nil done in
     rw (z, p .0) (take-all n done (p .1), drop-of-length-le done (p .1))
 
-module _ (s out₀ : List ℕ) (i₀ k₀ : ℕ) where
-  pub given-none : Given s out₀ i₀ k₀ i₀ k₀ 0 out₀
+module _ (shows : List ℕ → Bool) (s out₀ : List ℕ) (i₀ k₀ : ℕ) where
+  pub given-none : Given shows s out₀ i₀ k₀ i₀ k₀ 0 out₀
   given-none = record { done = []; goes = refl; stored = refl; many = refl; room = omega arith }
 
-  module _ {i k m : ℕ} {out : List ℕ} (g : Given s out₀ i₀ k₀ i k m out) where
+  module _ {i k m : ℕ} {out : List ℕ} (g : Given shows s out₀ i₀ k₀ i k m out) where
     pub given-length : length out ≡ length out₀
     given-length = ap length (g .stored) ∙ length-append (numbersOfAll (g .done)) (drop m out₀) ∙ simp (length-numbers, length-drop) (omega (arith, g .many, g .room))
 
-    pub given-more : (r : Row) (new : List ℕ) → firstAt i k (visibleRows s) ≡ At r → m + numbersPerRow ≤ length out₀ → new ≡ paste out m (numbersOf r) numbersPerRow
-        → Given s out₀ i₀ k₀ (r .page .0) (r .slot + 1) (m + numbersPerRow) new
+    pub given-more : (r : Row) (new : List ℕ) → firstAt i k (rowsOf shows s) ≡ At r → m + numbersPerRow ≤ length out₀ → new ≡ paste out m (numbersOf r) numbersPerRow
+        → Given shows s out₀ i₀ k₀ (r .page .0) (r .slot + 1) (m + numbersPerRow) new
     given-more r new e l h =
         let front : length (numbersOfAll (g .done)) ≡ m = length-numbers (g .done) ∙ sym (g .many) in
         let t : take m out ≡ numbersOfAll (g .done) = ap (take m) (g .stored) ∙ take-at (numbersOfAll (g .done)) (drop m out₀) m front in
@@ -259,40 +260,40 @@ module _ (s out₀ : List ℕ) (i₀ k₀ : ℕ) where
         sym (drop-drop numbersPerRow m out) ∙ ap (λ (x : List ℕ). drop numbersPerRow (drop m x)) (g .stored) ∙ ap (drop numbersPerRow) (drop-at (numbersOfAll (g .done)) (drop m out₀) m front) ∙ drop-drop numbersPerRow m out₀ in
         record {
           done = g .done ++ (r ∷ []);
-          goes = append-assoc (g .done) (r ∷ []) (rowsAt (r .page .0) (r .slot + 1) (visibleRows s)) ∙ ap (λ (x : List Row). g .done ++ x) (sym (row-next s i k r e)) ∙ g .goes;
+          goes = append-assoc (g .done) (r ∷ []) (rowsAt (r .page .0) (r .slot + 1) (rowsOf shows s)) ∙ ap (λ (x : List Row). g .done ++ x) (sym (row-next shows s i k r e)) ∙ g .goes;
           stored = h ∙ rw (t, d, numbers-append (g .done) (r ∷ []));
           many = omega (arith, g .many, length-append (g .done) (r ∷ []));
           room = l;
         }
 
     -- what is given back in the end
-    answer : (rest : List Row) → rowsAt i k (visibleRows s) ≡ rest → (length (g .done) ≡ length out₀ / numbersPerRow) ⊎ ((rest ≡ []) × (length (g .done) ≤ length out₀ / numbersPerRow))
-        → (listed (m / numbersPerRow) (pagesIn s) rest ≡ listOf s i₀ k₀ (length out₀ / numbersPerRow)) × (out ≡ listAfter s i₀ k₀ out₀)
+    answer : (rest : List Row) → rowsAt i k (rowsOf shows s) ≡ rest → (length (g .done) ≡ length out₀ / numbersPerRow) ⊎ ((rest ≡ []) × (length (g .done) ≤ length out₀ / numbersPerRow))
+        → (listed (m / numbersPerRow) (pagesIn s) rest ≡ listOf s (rowsOf shows s) i₀ k₀ (length out₀ / numbersPerRow)) × (out ≡ listAfter (rowsOf shows s) i₀ k₀ out₀)
     unfolding listOf listAfter
     answer rest e c =
-        let p = cut (rowsAt i₀ k₀ (visibleRows s)) (g .done) rest (length out₀ / numbersPerRow) (ap (λ (x : List Row). g .done ++ x) (sym e) ∙ g .goes) c in
+        let p = cut (rowsAt i₀ k₀ (rowsOf shows s)) (g .done) rest (length out₀ / numbersPerRow) (ap (λ (x : List Row). g .done ++ x) (sym e) ∙ g .goes) c in
         let n : m / numbersPerRow ≡ length (g .done) = omega (arith, g .many) in
         (rw (p .0, p .1, n), rw (p .0) (g .stored ∙ ap (λ (x : ℕ). numbersOfAll (g .done) ++ drop x out₀) (g .many)))
 
-    pub given-end : rowsAt i k (visibleRows s) ≡ []
-        → (listed (m / numbersPerRow) (pagesIn s) [] ≡ listOf s i₀ k₀ (length out₀ / numbersPerRow)) × (out ≡ listAfter s i₀ k₀ out₀)
+    pub given-end : rowsAt i k (rowsOf shows s) ≡ []
+        → (listed (m / numbersPerRow) (pagesIn s) [] ≡ listOf s (rowsOf shows s) i₀ k₀ (length out₀ / numbersPerRow)) × (out ≡ listAfter (rowsOf shows s) i₀ k₀ out₀)
     given-end e = answer [] e (inr (refl, omega (arith, g .many, g .room)))
 
-    pub given-full : (r : Row) → firstAt i k (visibleRows s) ≡ At r → length out₀ < m + numbersPerRow
-        → (listed (m / numbersPerRow) (pagesIn s) (r ∷ []) ≡ listOf s i₀ k₀ (length out₀ / numbersPerRow)) × (out ≡ listAfter s i₀ k₀ out₀)
-    given-full r e l = answer (r ∷ rowsAt (r .page .0) (r .slot + 1) (visibleRows s)) (row-next s i k r e) (inl (omega (arith, g .many, g .room)))
+    pub given-full : (r : Row) → firstAt i k (rowsOf shows s) ≡ At r → length out₀ < m + numbersPerRow
+        → (listed (m / numbersPerRow) (pagesIn s) (r ∷ []) ≡ listOf s (rowsOf shows s) i₀ k₀ (length out₀ / numbersPerRow)) × (out ≡ listAfter (rowsOf shows s) i₀ k₀ out₀)
+    given-full r e l = answer (r ∷ rowsAt (r .page .0) (r .slot + 1) (rowsOf shows s)) (row-next shows s i k r e) (inl (omega (arith, g .many, g .room)))
 
 -- ---- the whole answer
 
-module _ (magic : ℕ) (s : List ℕ) (i k : ℕ) (out : List ℕ) (v : Verdict) (is : v ≡ verdictOf magic s) where
-  pub list-refused : (v .number ≡ 0 → ⊥) → (noList v ≡ rowList magic s i k (length out / numbersPerRow)) × (out ≡ rowsAfter magic s i k out)
+module _ (magic : ℕ) (s : List ℕ) (rs : List Row) (i k : ℕ) (out : List ℕ) (v : Verdict) (is : v ≡ verdictOf magic s) where
+  pub list-refused : (v .number ≡ 0 → ⊥) → (noList v ≡ rowList magic s rs i k (length out / numbersPerRow)) × (out ≡ rowsAfter magic s rs i k out)
   unfolding rowList rowsAfter
   list-refused h =
       let t : eqb (verdictOf magic s .number) 0 ≡ false = rw (← is) (ne-eqb (v .number) 0 h) in
       (sym (rw (t, ← is)), sym (rw t))
 
-  pub list-taken : v .number ≡ 0 → (r : RowList) (new : List ℕ) → r ≡ listOf s i k (length out / numbersPerRow) → new ≡ listAfter s i k out
-      → (r ≡ rowList magic s i k (length out / numbersPerRow)) × (new ≡ rowsAfter magic s i k out)
+  pub list-taken : v .number ≡ 0 → (r : RowList) (new : List ℕ) → r ≡ listOf s rs i k (length out / numbersPerRow) → new ≡ listAfter rs i k out
+      → (r ≡ rowList magic s rs i k (length out / numbersPerRow)) × (new ≡ rowsAfter magic s rs i k out)
   unfolding rowList rowsAfter
   list-taken h r new e f =
       let t : eqb (verdictOf magic s .number) 0 ≡ true = rw (← is) (eq-eqb (v .number) 0 h) in

@@ -18,7 +18,7 @@ use Rattle.refusals.specs.declared.Verdict.{Verdict}
 use Rattle.refusals.proofs.Then.{then-accepted, then-zero}
 use Rattle.page.specs.Layout.{pageLimit, slotLimit, rowHead, longestTuple, pagesIn}
 use Rattle.page.specs.Fault.{verdictOf}
-use Rattle.page.specs.Rows.{visibleRows}
+use Rattle.page.specs.Rows.{visible, visibleRows}
 use Rattle.page.specs.declared.Row.{Row}
 use Rattle.page.proofs.Listing.{listable}
 use Rattle.page.proofs.RowLists.{Before, Rising, rising-pages}
@@ -240,7 +240,7 @@ written-back magic s lsn z l =
     let d = listable magic s z in
     let n : pagesIn s ≤ pageLimit = accepted-size magic s 0 z .1 in
     read-back lsn (summaryRows s) l (omega (arith, length-map (visibleRows s) shortened, few-rows s d n))
-    (rows-kept (pagesIn s) 0 0 (visibleRows s) n (rows-stand s d) (rising-pages s (pagesIn s) 0))
+    (rows-kept (pagesIn s) 0 0 (visibleRows s) n (rows-stand true s d) (rising-pages visible s (pagesIn s) 0))
 
 -- ---- steps
 

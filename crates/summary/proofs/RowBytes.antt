@@ -1,6 +1,7 @@
 -- The bytes of a head and of rows as they are put one behind the other, and how many there are.
 -- Assumes nothing.
 use mathlib.Core.Path.{_≡_, refl, sym, ap, _∙_}
+use mathlib.Core.Bool.{true}
 use Prim.Native.Nat.{ℕ, _+_, _*_, _^_, _≤_, _<_}
 use native.Mathlib.Nat.{zero-add}
 use native.Mathlib.Omega.{arith}
@@ -8,7 +9,7 @@ use mathlib.Core.List.{List, [], _∷_, _++_, map, append-assoc}
 use lib.ListN.{length, drop, length-append, length-map}
 use lib.Seq.{take-length}
 use Rattle.page.specs.Layout.{slotLimit, pageLimit, pagesIn}
-use Rattle.page.specs.Rows.{visibleRows, rowsAt, firstAt, Listable}
+use Rattle.page.specs.Rows.{visible, visibleRows, rowsAt, firstAt, Listable}
 use Rattle.page.specs.declared.Row.{Row}
 use Rattle.page.specs.declared.NextRow.{NextRow}
 use Rattle.page.specs.declared.NextRow.the-variants.{At}
@@ -61,7 +62,7 @@ restBytes s i k = rowsBytes (map shortened (rowsAt i k (visibleRows s)))
 
 module _ (s : List ℕ) where
   pub rest-all : restBytes s 0 0 ≡ rowsBytes (summaryRows s)
-  rest-all = ap (λ (rs : List Row). rowsBytes (map shortened rs)) (rows-all s)
+  rest-all = ap (λ (rs : List Row). rowsBytes (map shortened rs)) (rows-all visible s)
 
   pub rest-none : (i k : ℕ) → rowsAt i k (visibleRows s) ≡ [] → restBytes s i k ≡ []
   unfolding rowsBytes
@@ -69,12 +70,12 @@ module _ (s : List ℕ) where
 
   pub rest-next : (i k : ℕ) (r : Row) → firstAt i k (visibleRows s) ≡ At r → restBytes s i k ≡ rowBytes (shortened r) ++ restBytes s (r .page .0) (r .slot + 1)
   unfolding rowsBytes
-  rest-next i k r e = ap (λ (rs : List Row). rowsBytes (map shortened rs)) (row-next s i k r e)
+  rest-next i k r e = ap (λ (rs : List Row). rowsBytes (map shortened rs)) (row-next visible s i k r e)
 
   -- a row more is counted
   module _ (i k rows bytes : ℕ) (r : Row) (e : firstAt i k (visibleRows s) ≡ At r) where
     pub counted : rows + length (rowsAt i k (visibleRows s)) ≡ length (visibleRows s) → rows + 1 + length (rowsAt (r .page .0) (r .slot + 1) (visibleRows s)) ≡ length (visibleRows s)
-    counted h = omega (arith, ap length (row-next s i k r e))
+    counted h = omega (arith, ap length (row-next visible s i k r e))
 
     pub measured : bytes + length (restBytes s i k) ≡ length (rowsBytes (summaryRows s))
         → bytes + length (rowBytes (shortened r)) + length (restBytes s (r .page .0) (r .slot + 1)) ≡ length (rowsBytes (summaryRows s))
@@ -109,10 +110,10 @@ few-bytes n l (r ∷ rs) u =
 
 module _ (s : List ℕ) (d : Listable s) (l : pagesIn s ≤ pageLimit) where
   pub few-rows : length (visibleRows s) ≤ slotLimit * pageLimit
-  few-rows = omega (arith, rows-few s d)
+  few-rows = omega (arith, rows-few true s d)
 
   pub few-row-bytes : length (rowsBytes (summaryRows s)) ≤ 30 * (slotLimit * pageLimit)
-  few-row-bytes = omega (arith, few-bytes (pagesIn s) l (visibleRows s) (rows-stand s d), few-rows)
+  few-row-bytes = omega (arith, few-bytes (pagesIn s) l (visibleRows s) (rows-stand true s d), few-rows)
 
 -- ---- the whole file
 

@@ -1,5 +1,18 @@
 //! The functions of include/lumbraquay.h.
 
+/// A listing of rows.
+pub type List = unsafe extern "C" fn(
+    magic: u64,
+    pages: *const u8,
+    len: usize,
+    page: u64,
+    slot: u16,
+    rows: *mut u64,
+    rows_len: usize,
+    out: *mut u64,
+    out_len: usize,
+);
+
 extern "C" {
     pub fn lq_version() -> u32;
 
@@ -59,6 +72,18 @@ extern "C" {
     );
 
     pub fn lq_list_visible(
+        magic: u64,
+        pages: *const u8,
+        len: usize,
+        page: u64,
+        slot: u16,
+        rows: *mut u64,
+        rows_len: usize,
+        out: *mut u64,
+        out_len: usize,
+    );
+
+    pub fn lq_list_cancelled(
         magic: u64,
         pages: *const u8,
         len: usize,

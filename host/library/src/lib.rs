@@ -269,14 +269,30 @@ pub fn next_visible(magic: u64, pages: &[u8], page: u64, slot: u16) -> Visible {
 /// Fills the numbers with visible rows from a slot of a page on, four numbers a row, read by `listed`. Refuses as
 /// `verify` does; the numbers then stay.
 pub fn list_visible(magic: u64, pages: &[u8], page: u64, slot: u16, rows: &mut [u64]) -> Listing {
+    list(c::lq_list_visible, magic, pages, (page, slot), rows)
+}
+
+/// The same of the cancelled rows: those that `list_visible` passes over.
+pub fn list_cancelled(magic: u64, pages: &[u8], page: u64, slot: u16, rows: &mut [u64]) -> Listing {
+    list(c::lq_list_cancelled, magic, pages, (page, slot), rows)
+}
+
+fn list(
+    call: c::List,
+    magic: u64,
+    pages: &[u8],
+    (page, slot): (u64, u16),
+    rows: &mut [u64],
+) -> Listing {
+    let (from, to) = (pages.as_ptr(), rows.as_mut_ptr());
     filled(|out, out_len| unsafe {
-        c::lq_list_visible(
+        call(
             magic,
-            pages.as_ptr(),
+            from,
             pages.len(),
             page,
             slot,
-            rows.as_mut_ptr(),
+            to,
             rows.len(),
             out,
             out_len,

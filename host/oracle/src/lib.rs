@@ -14,7 +14,8 @@ mod summary;
 
 pub use crc::crc32c;
 pub use listing::{
-    free_map, list_visible, next_visible, verify, verify_from, FreeMap, Listing, Verdict, Visible,
+    free_map, list_cancelled, list_visible, next_visible, verify, verify_from, FreeMap, Listing,
+    Verdict, Visible,
 };
 pub use log::{backward, forward, log_open, EntryFields, Step};
 pub use recovery::{recover, Answer, Record};

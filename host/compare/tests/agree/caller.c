@@ -65,6 +65,7 @@ int main(int count, char **words) {
     CALL(lq_read_row, LQ_READ_ROW_NUMBERS, 1, 0, NULL, 0, NULL, 0, 0, 0)
     CALL(lq_next_visible, LQ_NEXT_VISIBLE_NUMBERS, 1, NULL, 0, 0, 0)
     CALL(lq_list_visible, LQ_LIST_VISIBLE_NUMBERS, 1, NULL, 0, 0, 0, NULL, 0)
+    CALL(lq_list_cancelled, LQ_LIST_VISIBLE_NUMBERS, 1, NULL, 0, 0, 0, NULL, 0)
     CALL(lq_free_map, LQ_FREE_MAP_NUMBERS, 1, NULL, 0, NULL, 0)
     must(whole[LQ_FREE_MAP_NUMBER] == LQ_DONE, "lq_free_map", "no pages need no map", MOST);
     CALL(lq_summary_write, LQ_SUMMARY_WRITE_NUMBERS, 1, NULL, 0, 300, NULL, 0)
@@ -104,6 +105,8 @@ int main(int count, char **words) {
         must(rows[i] == out[LQ_NEXT_VISIBLE_PAGE + i], "lq_list_visible", "another first row than lq_next_visible's", MOST);
     CALL(lq_list_visible, LQ_LIST_VISIBLE_NUMBERS, magic, kept, pages_len, 0, 0, NULL, 0)
     must(whole[LQ_LIST_VISIBLE_PAGE] == rows[LQ_ROW_PAGE], "lq_list_visible", "goes on at the first row", MOST);
+    CALL(lq_list_cancelled, LQ_LIST_VISIBLE_NUMBERS, magic, kept, pages_len, 0, 0, rows, sizeof rows / sizeof *rows)
+    must(whole[LQ_LIST_VISIBLE_COUNT] == 0, "lq_list_cancelled", "no row is cancelled", MOST);
     CALL(lq_free_map, LQ_FREE_MAP_NUMBERS, magic, kept, pages_len, map, sizeof map)
     must(whole[LQ_FREE_MAP_FREE] == 1, "lq_free_map", "one page is free", MOST);
     CALL(lq_free_map, LQ_FREE_MAP_NUMBERS, magic, kept, pages_len, NULL, 0)
@@ -125,6 +128,8 @@ int main(int count, char **words) {
          log_len, table, sizeof table / sizeof *table)
     must(whole[LQ_RECOVER_COMMITTED] == 2, "lq_recover", "two transactions committed", MOST);
     must(table[LQ_RECORD_OUTCOME] == LQ_COMMITTED, "lq_recover", "the first transaction committed", MOST);
+    CALL(lq_list_cancelled, LQ_LIST_VISIBLE_NUMBERS, magic, pages, pages_len, 0, 0, rows, sizeof rows / sizeof *rows)
+    must(whole[LQ_LIST_VISIBLE_COUNT] == 1 && rows[LQ_ROW_PAGE] == 1 && rows[LQ_ROW_SLOT] == 2, "lq_list_cancelled", "one row was deleted", MOST);
     CALL(lq_recover, LQ_RECOVER_NUMBERS, magic, 0, (uint8_t *)memcpy(pages, kept, sizeof kept), pages_len, log_bytes,
          log_len, NULL, 0)
     must(whole[LQ_RECOVER_NUMBER] == LQ_NO_RECORD, "lq_recover", "no table has no record left", MOST);

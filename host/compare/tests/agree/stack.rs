@@ -38,6 +38,10 @@ fn call_everything() {
         library::list_visible(MAGIC, &pages, 299, 80, &mut [0; 4]).count,
         0
     );
+    assert_eq!(
+        library::list_cancelled(MAGIC, &pages, 299, 80, &mut [0; 4]).count,
+        0
+    );
     assert_eq!(library::free_map(MAGIC, &pages, &mut [0; 38]).free, 0);
     let mut summary = vec![0; 300 * 80 * 6 + 15];
     let written = library::summary_write(MAGIC, &pages, 7, &mut summary);

@@ -1,6 +1,6 @@
-//! `rows`: every visible row, as the library lists them.
+//! `rows`: every visible row, or every cancelled one, as the library lists them.
 
-use library::{Listed, PAGE_BYTES, ROW_NUMBERS};
+use library::{Listed, Listing, PAGE_BYTES, ROW_NUMBERS};
 
 use crate::advice::unless_refused;
 use crate::args::{Choice, Command, Parsed, JSON, MAGIC};
@@ -18,10 +18,14 @@ pub const COMMAND: Command = Command {
     options: &[
         Choice::value("--page", "N", "only those of this page"),
         Choice::value("--limit", "N", "list no more rows than this"),
+        Choice::flag(
+            "--cancelled",
+            "list the cancelled rows, which are passed over, instead of the visible ones",
+        ),
         MAGIC,
         JSON,
     ],
-    more: "A row is visible if its deleted byte is 0. Rows come as they stand in the file: recover it first.",
+    more: "A row is visible if its deleted byte is 0 and its xmax is 0; any other is passed over as cancelled, and counted whatever --limit is. Rows come as they stand in the file: recover it first.",
     run,
 };
 
@@ -31,22 +35,25 @@ const SHOWN: usize = 60;
 /// How many rows are asked for at a time: the library checks all pages for each listing.
 const AT_ONCE: usize = 65_536;
 
-/// A visible row.
+/// A row of a listing.
 struct Row<'a> {
     at: Listed,
     tuple: Tuple<'a>,
 }
 
-/// The visible rows of pages that are all good, in order, from a page on.
-pub fn listed(pages: &Pages, first: u64) -> impl Iterator<Item = Listed> + '_ {
+/// A listing of the library.
+type List = fn(u64, &[u8], u64, u16, &mut [u64]) -> Listing;
+
+/// The rows of pages that are all good, in order, or those of one page.
+fn rows(pages: &Pages, list: List, only: Option<u64>) -> impl Iterator<Item = Row<'_>> {
     let end = (pages.bytes.len() / PAGE_BYTES) as u64;
-    let mut from = (first, 0);
+    let mut from = (only.unwrap_or(0), 0);
     let lists = std::iter::from_fn(move || {
         if from.0 >= end {
             return None;
         }
         let mut numbers = vec![0; ROW_NUMBERS * AT_ONCE];
-        let list = library::list_visible(pages.magic, &pages.bytes, from.0, from.1, &mut numbers);
+        let list = list(pages.magic, &pages.bytes, from.0, from.1, &mut numbers);
         if list.number != 0 {
             return None;
         }
@@ -54,12 +61,10 @@ pub fn listed(pages: &Pages, first: u64) -> impl Iterator<Item = Listed> + '_ {
         let rows = library::listed(&numbers).take(list.count as usize);
         Some(rows.collect::<Vec<Listed>>())
     });
-    lists.flatten()
-}
-
-/// The same with their tuples.
-fn visible(pages: &Pages, first: u64) -> impl Iterator<Item = Row<'_>> {
-    listed(pages, first).filter_map(|at| {
+    let rows = lists
+        .flatten()
+        .take_while(move |at| only.is_none_or(|page| page == at.page));
+    rows.filter_map(|at| {
         let bytes = &pages.bytes[at.offset as usize..][..at.length as usize];
         Tuple::of(bytes).map(|tuple| Row { at, tuple })
     })
@@ -74,34 +79,61 @@ fn run(parsed: &Parsed, output: &mut Output) -> Result<(), Failure> {
     unless_refused(parsed, output, verdict, Read::pages(&pages))?;
     super::must_have_page(parsed, output, &pages, only)?;
 
-    let rows = visible(&pages, only.unwrap_or(0))
-        .take_while(|row| only.is_none_or(|page| page == row.at.page))
-        .take(limit);
+    let cancelled = rows(&pages, library::list_cancelled, only).count() as u64;
+    let of_cancelled = parsed.flag("--cancelled");
+    let (shown, list): (_, List) = match of_cancelled {
+        true => ("cancelled", library::list_cancelled),
+        false => ("visible", library::list_visible),
+    };
+    let rows = rows(&pages, list, only).take(limit);
     if parsed.flag("--json") {
         let mut fields = head_fields(parsed, "done", verdict);
         fields.extend(pages.fields());
-        fields.push((
-            "rows",
-            Json::List(rows.map(|row| row_fields(&row)).collect()),
-        ));
+        fields.extend([
+            ("shown", shown.into()),
+            ("cancelled", cancelled.into()),
+            (
+                "rows",
+                Json::List(rows.map(|row| row_fields(&row)).collect()),
+            ),
+        ]);
         return output.line(Json::Object(fields));
     }
     output.line(pages.line())?;
-    output.line("  page   slot  length      xmin      xmax  payload")?;
+    // A visible row has deleted byte 0.
+    let deleted = |text: &str| match of_cancelled {
+        true => format!("{text:>9}"),
+        false => String::new(),
+    };
+    output.line(format_args!(
+        "  page   slot  length      xmin      xmax{}  payload",
+        deleted("deleted")
+    ))?;
     let mut listed = 0;
     for row in rows {
         listed += 1;
         output.line(format_args!(
-            "{:>6}  {:>5}  {:>6}  {:>8}  {:>8}  {}",
+            "{:>6}  {:>5}  {:>6}  {:>8}  {:>8}{}  {}",
             row.at.page,
             row.at.slot,
             row.at.length,
             row.tuple.xmin(),
             row.tuple.xmax(),
+            deleted(if row.tuple.is_deleted() { "1" } else { "0" }),
             show::payload(row.tuple.payload(), SHOWN)
         ))?;
     }
-    output.line(show::count(listed, "visible row", "visible rows"))
+    if of_cancelled {
+        return output.line(show::count(listed, "cancelled row", "cancelled rows"));
+    }
+    output.line(show::count(listed, "visible row", "visible rows"))?;
+    let passed = show::count(cancelled, "row", "rows");
+    let more = match cancelled {
+        0 => "",
+        1 => "; --cancelled lists it",
+        _ => "; --cancelled lists them",
+    };
+    output.line(format_args!("{passed} passed over as cancelled{more}"))
 }
 
 fn row_fields(row: &Row) -> Json {
@@ -113,6 +145,7 @@ fn row_fields(row: &Row) -> Json {
         ("offset", row.at.offset.into()),
         ("xmin", row.tuple.xmin().into()),
         ("xmax", row.tuple.xmax().into()),
+        ("deleted", row.tuple.is_deleted().into()),
         ("payload", Json::text(show::hex(payload))),
         (
             "text",

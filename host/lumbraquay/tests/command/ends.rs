@@ -106,7 +106,7 @@ fn large_numbers_are_exact() {
     assert_eq!(entries[1].text("page_text"), "18446744073709551615");
     assert_eq!(entries[1].number("transaction"), u64::MAX);
     let rows = sandbox.say("rows pages --json").done();
-    assert!(rows.out.contains("\"xmin\":18446744073709551614,\"xmin_text\":\"18446744073709551614\",\"xmax\":0,\"payload\""));
+    assert!(rows.out.contains("\"xmin\":18446744073709551614,\"xmin_text\":\"18446744073709551614\",\"xmax\":0,\"deleted\":false,\"payload\""));
 }
 
 /// A page with one row of this payload.

@@ -1,9 +1,10 @@
 use mathlib.Core.Path.{_≡_, sym, ap, ap₂, _∙_}
 use Prim.Native.Nat.{ℕ, _+_}
+use mathlib.Core.Bool.{true}
 use native.Mathlib.Omega.{arith}
 use lib.ListN.{length}
 use borrow.Author.Needs.{needs}
-use Rattle.page.specs.Rows.{visibleRows, rowsAt, firstAt}
+use Rattle.page.specs.Rows.{visible, visibleRows, rowsAt, firstAt}
 use Rattle.page.specs.declared.NextRow.the-variants.{At}
 use Rattle.page.proofs.RowLists.{row-next, row-none, rows-all}
 use Rattle.page.proofs.RowBounds.{slot-low}
@@ -24,7 +25,7 @@ abbrev counts : ℕ → ℕ → Measured
 counts rows bytes = record { rows = rows; bytes = bytes }
 
 loop-holds : tie.Need-loop-holds Inv-loop μ-loop
-loop-holds c = let s = c .before .args .pages .now in (omega (arith, ap length (rows-all s)), omega (arith, ap length (rest-all s)))
+loop-holds c = let s = c .before .args .pages .now in (omega (arith, ap length (rows-all visible s)), omega (arith, ap length (rest-all s)))
 
 next-row-requires : tie.Need-next-row-requires Inv-loop μ-loop
 next-row-requires c κs = c .before .before .pre .0
@@ -34,7 +35,7 @@ returns c =
     let n = c .before in
     let l = n .before .loop in
     let s = n .before .before .before .args .pages .now in
-    let none = row-none s (l .i) (l .k) _ (n .next-row .ensures) (c .match .keys2) in
+    let none = row-none visible s (l .i) (l .k) _ (n .next-row .ensures) (c .match .keys2) in
     ap₂ counts (omega (arith, l .inv .0, ap length none)) (omega (arith, l .inv .1, ap length (rest-none s (l .i) (l .k) none)))
 
 -- a row was met
@@ -59,13 +60,13 @@ add-k c =
     let n = c .before .before .before in
     let l = n .before .before .before in
     let s = l .before .before in
-    record { fits = omega (arith, slot-low (s .args .pages .now) (s .pre .0) (l .loop .i) (l .loop .k) _ (met n)) }
+    record { fits = omega (arith, slot-low true (s .args .pages .now) (s .pre .0) (l .loop .i) (l .loop .k) _ (met n)) }
 
 loop-less : tie.Need-loop-less Inv-loop μ-loop
 loop-less c =
     let n = c .before .before .before in
     let l = n .before .before .before in
-    omega (arith, ap length (row-next (l .before .before .args .pages .now) (l .loop .i) (l .loop .k) _ (met n)))
+    omega (arith, ap length (row-next visible (l .before .before .args .pages .now) (l .loop .i) (l .loop .k) _ (met n)))
 
 loop-again : tie.Need-loop-again Inv-loop μ-loop
 loop-again c =

@@ -1,9 +1,10 @@
 use mathlib.Core.Path.{_≡_, refl, sym, ap, _∙_}
 use Prim.Native.Nat.{_+_, _≤_}
+use mathlib.Core.Bool.{true}
 use native.Mathlib.Omega.{arith}
 use lib.ListN.{length}
 use borrow.Author.Needs.{needs}
-use Rattle.page.specs.Rows.{visibleRows, rowsAt, firstAt}
+use Rattle.page.specs.Rows.{visible, visibleRows, rowsAt, firstAt}
 use Rattle.page.specs.declared.NextRow.the-variants.{At}
 use Rattle.page.proofs.RowLists.{row-next, row-none}
 use Rattle.page.proofs.RowBounds.{slot-low}
@@ -38,7 +39,7 @@ returns c =
     let n = c .before in
     let l = n .before .loop in
     let s = n .before .before .before .before .args .pages .now in
-    let none = row-none s (l .i) (l .k) _ (n .next-row .ensures) (c .match .keys2) in
+    let none = row-none visible s (l .i) (l .k) _ (n .next-row .ensures) (c .match .keys2) in
     sym (put-none (l .area) (l .at)) ∙ ap (put (l .area) (l .at)) (sym (rest-none s (l .i) (l .k) none)) ∙ l .inv .2
 
 -- a row was met
@@ -57,13 +58,13 @@ add-k c =
     let n = c .before .before .before .before .before .before in
     let l = n .before .before .before in
     let s = l .before .before .before in
-    record { fits = omega (arith, slot-low (s .args .pages .now) (s .pre .0) (l .loop .i) (l .loop .k) _ (met n)) }
+    record { fits = omega (arith, slot-low true (s .args .pages .now) (s .pre .0) (l .loop .i) (l .loop .k) _ (met n)) }
 
 loop-less : tie.Need-loop-less Inv-loop μ-loop
 loop-less c =
     let n = c .before .before .before .before .before .before in
     let l = n .before .before .before in
-    omega (arith, ap length (row-next (l .before .before .before .args .pages .now) (l .loop .i) (l .loop .k) _ (met n)))
+    omega (arith, ap length (row-next visible (l .before .before .before .args .pages .now) (l .loop .i) (l .loop .k) _ (met n)))
 
 loop-again : tie.Need-loop-again Inv-loop μ-loop
 loop-again c =
