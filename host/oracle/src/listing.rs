@@ -71,6 +71,31 @@ fn is_visible(tuple: &[u8]) -> bool {
     tuple[16] == 0 && xmax.iter().all(|byte| *byte == 0)
 }
 
+/// The rows of pages that are all good whose tuples are wanted, in the order of
+/// the listing: page, slot, tuple length and the tuple's offset in the pages.
+fn rows_of(pages: &[u8], is_wanted: fn(&[u8]) -> bool) -> impl Iterator<Item = [u64; 4]> + '_ {
+    let pages = pages.chunks_exact(PAGE_BYTES).enumerate();
+    let data = pages.filter(|(_, own)| page_type(own) == DATA);
+    data.flat_map(move |(index, own)| {
+        (0..item_count(own)).filter_map(move |slot| {
+            let (at, length) = tuple_in_slot(own, slot)?;
+            let row = [index, slot, length, index * PAGE_BYTES + at];
+            is_wanted(&own[at..]).then_some(row.map(|number| number as u64))
+        })
+    })
+}
+
+/// All visible rows, where the listing does not refuse.
+pub(crate) fn visible_rows(magic: u64, pages: &[u8]) -> Result<Vec<[u64; 4]>, Refusal> {
+    check(magic, pages, 0)?;
+    Ok(rows_of(pages, is_visible).collect())
+}
+
+/// Whether a row stands at or after a (page, slot).
+fn is_from([page, slot, ..]: &[u64; 4], from: (u64, u16)) -> bool {
+    (*page, *slot) >= (from.0, u64::from(from.1))
+}
+
 /// The first visible row on a page of type 1 at or after a (page, slot), in that
 /// order, with its page, slot, tuple length and the tuple's offset in the pages,
 /// or none.
@@ -82,31 +107,18 @@ pub fn next_visible(magic: u64, pages: &[u8], page: u64, slot: u16) -> Visible {
             ..Visible::default()
         };
     }
-    for (index, own) in pages.chunks_exact(PAGE_BYTES).enumerate() {
-        if page_type(own) != DATA {
-            continue;
-        }
-        for candidate in 0..item_count(own) {
-            if (index as u64, candidate) < (page, slot as usize) {
-                continue;
-            }
-            let Some((at, length)) = tuple_in_slot(own, candidate) else {
-                continue;
-            };
-            if is_visible(&own[at..]) {
-                return Visible {
-                    number: 0,
-                    place: 0,
-                    found: 1,
-                    page: index as u64,
-                    slot: candidate as u64,
-                    length: length as u64,
-                    offset: (index * PAGE_BYTES + at) as u64,
-                };
-            }
-        }
+    match rows_of(pages, is_visible).find(|row| is_from(row, (page, slot))) {
+        None => Visible::default(),
+        Some([page, slot, length, offset]) => Visible {
+            number: 0,
+            place: 0,
+            found: 1,
+            page,
+            slot,
+            length,
+            offset,
+        },
     }
-    Visible::default()
 }
 
 /// Visible rows from a (page, slot) on, four numbers each: page, slot, tuple length and the tuple's offset in the pages,
@@ -141,29 +153,13 @@ fn list(
         ..Listing::default()
     };
     let mut room = rows.chunks_exact_mut(4);
-    for (index, own) in pages.chunks_exact(PAGE_BYTES).enumerate() {
-        if page_type(own) != DATA {
-            continue;
-        }
-        for candidate in 0..item_count(own) {
-            if (index as u64, candidate) < (page, slot as usize) {
-                continue;
-            }
-            let Some((at, length)) = tuple_in_slot(own, candidate) else {
-                continue;
-            };
-            if !is_wanted(&own[at..]) {
-                continue;
-            }
-            let Some(row) = room.next() else {
-                answer.page = index as u64;
-                answer.slot = candidate as u64;
-                return answer;
-            };
-            let offset = index * PAGE_BYTES + at;
-            row.copy_from_slice(&[index, candidate, length, offset].map(|number| number as u64));
-            answer.count += 1;
-        }
+    for row in rows_of(pages, is_wanted).filter(|row| is_from(row, (page, slot))) {
+        let Some(lent) = room.next() else {
+            [answer.page, answer.slot, ..] = row;
+            return answer;
+        };
+        lent.copy_from_slice(&row);
+        answer.count += 1;
     }
     answer
 }

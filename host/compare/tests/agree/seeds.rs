@@ -14,7 +14,7 @@ use crate::{assert_no_differences, tell};
 const SEEDS: Range<u64> = 0..20_000;
 
 /// The calls that refuse by the paper's numbers.
-const REFUSING: [&str; 9] = [
+const REFUSING: [&str; 12] = [
     "recover",
     "read_row",
     "verify",
@@ -24,7 +24,13 @@ const REFUSING: [&str; 9] = [
     "list_cancelled",
     "free_map",
     "log_open",
+    "summary_write",
+    "summary_read",
+    "summary_row",
 ];
+
+/// Those of them that are lent no pages.
+const WITHOUT_PAGES: [&str; 3] = ["log_open", "summary_read", "summary_row"];
 
 /// One sweep over all seeds, which the tests below look at.
 fn seen() -> &'static Seen {
@@ -135,7 +141,7 @@ fn honest_histories_end_as_their_ledgers_say() {
 fn page_faults_are_told_apart() {
     let seen = seen();
     assert_no_differences(seen);
-    for entry in REFUSING.iter().filter(|it| **it != "log_open") {
+    for entry in REFUSING.iter().filter(|it| !WITHOUT_PAGES.contains(it)) {
         for number in [11, 17, 18, 19] {
             let times = seen.times(entry, number);
             assert!(times > 50, "{entry} gave {number} {times} times");
@@ -169,4 +175,29 @@ fn spoiled_inputs_reach_every_refusal() {
         assert!(seen.kinds.contains_key(mutation.name), "{}", mutation.name);
     }
     assert_often(seen, &[("aim", 5_000)]);
+}
+
+/// Summaries of every kind are written and read, and each of their refusals is given often.
+#[test]
+fn summaries_reach_every_refusal() {
+    let seen = seen();
+    assert_no_differences(seen);
+    assert!(seen.times("summary_write", 27) > 5_000);
+    for entry in ["summary_read", "summary_row"] {
+        for number in 28..=33 {
+            let times = seen.times(entry, number);
+            assert!(times > 1_000, "{entry} gave {number} {times} times");
+        }
+    }
+    for kind in generate::summary_kinds() {
+        assert!(seen.events(kind) > 500, "{kind}: {}", seen.events(kind));
+    }
+    assert_often(
+        seen,
+        &[
+            ("summary written and read", 5_000),
+            ("summary gone through by steps", 5_000),
+            ("aim of a summary", 20_000),
+        ],
+    );
 }

@@ -42,10 +42,10 @@ struct Row<'a> {
 }
 
 /// A listing of the library.
-type List = fn(u64, &[u8], u64, u16, &mut [u64]) -> Listing;
+pub type List = fn(u64, &[u8], u64, u16, &mut [u64]) -> Listing;
 
 /// The rows of pages that are all good, in order, or those of one page.
-fn rows(pages: &Pages, list: List, only: Option<u64>) -> impl Iterator<Item = Row<'_>> {
+pub fn listed(pages: &Pages, list: List, only: Option<u64>) -> impl Iterator<Item = Listed> + '_ {
     let end = (pages.bytes.len() / PAGE_BYTES) as u64;
     let mut from = (only.unwrap_or(0), 0);
     let lists = std::iter::from_fn(move || {
@@ -61,10 +61,14 @@ fn rows(pages: &Pages, list: List, only: Option<u64>) -> impl Iterator<Item = Ro
         let rows = library::listed(&numbers).take(list.count as usize);
         Some(rows.collect::<Vec<Listed>>())
     });
-    let rows = lists
+    lists
         .flatten()
-        .take_while(move |at| only.is_none_or(|page| page == at.page));
-    rows.filter_map(|at| {
+        .take_while(move |at| only.is_none_or(|page| page == at.page))
+}
+
+/// The same with their tuples.
+fn rows(pages: &Pages, list: List, only: Option<u64>) -> impl Iterator<Item = Row<'_>> {
+    listed(pages, list, only).filter_map(|at| {
         let bytes = &pages.bytes[at.offset as usize..][..at.length as usize];
         Tuple::of(bytes).map(|tuple| Row { at, tuple })
     })

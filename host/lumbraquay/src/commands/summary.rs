@@ -241,7 +241,9 @@ fn diff(parsed: &Parsed, output: &mut Output) -> Result<(), Failure> {
 
     let compared = Compared {
         then: summary.rows().map(Row::of).peekable(),
-        now: listed(&pages, 0).map(Row::listed).peekable(),
+        now: listed(&pages, library::list_visible, None)
+            .map(Row::listed)
+            .peekable(),
     };
     let (mut gone, mut new, mut changed, mut same) = (Vec::new(), Vec::new(), Vec::new(), 0u64);
     for change in compared {
