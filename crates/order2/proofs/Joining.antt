@@ -40,7 +40,7 @@ use Rattle.order2.proofs.Wrongs.{wrong-order}
 -- ---- the least of the faults of all rules but 9
 
 module _ (full : ℕ → Bool) where
-  least-basic : Least own (Only full butClash) (basicFault full)
+  pub least-basic : Least own (Only full butClash) (basicFault full)
   unfolding basicFault
   least-basic = record { free = free; here = here; least = λ xs e m n h l b. omega (arith, le xs e m b) }
     where

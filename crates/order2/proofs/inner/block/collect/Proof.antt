@@ -6,7 +6,7 @@ use native.Mathlib.Omega.{arith}
 use borrow.Author.Needs.{needs}
 use lib.ListN.{length}
 use Rattle.wal.specs.Prefix.{Met}
-use Rattle.wal.proofs.Prefix.{met-first, met-from, view-kind}
+use Rattle.wal.proofs.Prefix.{met-first, met-from, met-small, view-kind}
 use Rattle.wal.proofs.Known.{Ahead, still, ahead-found, known-stops}
 use Rattle.order2.specs.Blocks.{Gathered}
 use Rattle.order2.proofs.Gathering.{gathered-first}
@@ -46,7 +46,10 @@ take-in-requires c κs =
     (s .pre .0, ((omega (arith, i .0, s .pre .1 .0 .0), omega (arith, i .1, s .pre .1 .0 .1)), (i .2, (k .stands, (view-kind _ _ (k .is), i .4)))))
 
 add-at : tie.Need-add-at Inv-loop μ-loop
-add-at c = let k = behind (c .before .before .before .before .before .before .before .before .before) in omega (arith, k .next)
+add-at c =
+    let k = behind (c .before .before .before .before .before .before .before .before .before) in
+    let s = c .before .before .before .before .before .before .before .before .before .before .before .before .before .before .before .before .before in
+    omega (arith, k .next, met-small _ (s .pre .1 .1), s .pre .0)
 
 loop-less : tie.Need-loop-less Inv-loop μ-loop
 loop-less c = let k = behind (c .before .before .before .before .before .before .before .before .before) in omega (arith, k .next, k .low)
