@@ -1,3 +1,5 @@
+-- A Commit or a Rollback.
+-- Assumes nothing.
 use borrow.Author.Tests.{eq-eqb, ne-eqb}
 use Rattle.order2.proofs.inner.block.is_end.Statement.{statement}
 use Rattle.order2.proofs.inner.block.is_end.Tie as tie

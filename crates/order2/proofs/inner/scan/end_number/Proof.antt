@@ -1,3 +1,5 @@
+-- Only damage is refused.
+-- Assumes nothing.
 use mathlib.Core.Path.{_≡_, refl}
 use mathlib.Core.List.{_∷_, []}
 use borrow.Author.Needs.{needs}

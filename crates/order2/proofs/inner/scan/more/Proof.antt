@@ -1,3 +1,5 @@
+-- One more, or as many.
+-- Assumes nothing.
 use native.Mathlib.Omega.{arith}
 use borrow.Author.Needs.{needs}
 use Rattle.order2.proofs.inner.scan.more.Statement.{statement}

@@ -1,3 +1,5 @@
+-- A Begin needs a record, where there is a table.
+-- Assumes nothing.
 use borrow.Author.Tests.{eq-eqb, ne-eqb, not-false}
 use Rattle.rules.proofs.Tests.{not-true}
 use Rattle.order2.proofs.inner.scan.no_record.Statement.{statement}
