@@ -3,7 +3,7 @@
 ghost use mathlib.Core.Path.{_≡_};
 ghost use Prim.Native.Nat.{_<_};
 ghost use Rattle.index.specs.Places.{number, Places, Rising};
-ghost use Rattle.index.specs.Index.{lookup, guessCount};
+ghost use Rattle.index.specs.Index.{lookup};
 use crate::inner::number_of;
 use crate::inner::position;
 use endian::TxnNumber;
@@ -35,7 +35,7 @@ fn guessed(log: &[u8], a: &[u32], t: TxnNumber, guess: usize) -> u32
 
 // Behind where the number before the one of remainder r was found last.
 fn further(guesses: &[u32; GUESSES], r: usize) -> usize
-    requires { ⌜ r < guessCount ⌝ }
+    requires { ⌜ r < 4093 ⌝ }
 {
     if r == 0 {
         return wide(guesses[GUESSES - 1]) + 1;
@@ -47,7 +47,7 @@ fn further(guesses: &[u32; GUESSES], r: usize) -> usize
 fn searched(log: &[u8], a: &[u32], t: TxnNumber, r: usize, guesses: &mut [u32; GUESSES]) -> u32
     requires { ⌜ Places (now log) (now a) ⌝ }
     requires { ⌜ Rising (number (now log)) (now a) ⌝ }
-    requires { ⌜ r < guessCount ⌝ }
+    requires { ⌜ r < 4093 ⌝ }
     ensures { λ p. ⌜ p ≡ lookup (number (now (log .entry))) (t .0) (now (a .entry)) ⌝ }
 {
     let i = position(log, a, t);
@@ -62,7 +62,7 @@ fn searched(log: &[u8], a: &[u32], t: TxnNumber, r: usize, guesses: &mut [u32; G
 fn afar(log: &[u8], a: &[u32], t: TxnNumber, r: usize, guesses: &mut [u32; GUESSES]) -> u32
     requires { ⌜ Places (now log) (now a) ⌝ }
     requires { ⌜ Rising (number (now log)) (now a) ⌝ }
-    requires { ⌜ r < guessCount ⌝ }
+    requires { ⌜ r < 4093 ⌝ }
     ensures { λ p. ⌜ p ≡ lookup (number (now (log .entry))) (t .0) (now (a .entry)) ⌝ }
 {
     let n = further(guesses, r);
@@ -80,7 +80,7 @@ pub fn near(log: &[u8], a: &[u32], t: TxnNumber, guesses: &mut [u32; GUESSES]) -
     requires { ⌜ Rising (number (now log)) (now a) ⌝ }
     ensures { λ p. ⌜ p ≡ lookup (number (now (log .entry))) (t .0) (now (a .entry)) ⌝ }
 {
-    let r = (t.0 as usize) % GUESSES;
+    let r = (t.0 % 4093) as usize;
     let g = wide(guesses[r]);
     let p = guessed(log, a, t, g);
     if p == 0 {

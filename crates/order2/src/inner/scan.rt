@@ -11,9 +11,6 @@ ghost use Rattle.rules.specs.Order.{one};
 ghost use Rattle.order2.specs.First.{reach, fullOf, endNumber};
 ghost use Rattle.order2.specs.Scanning.{earlyFault, Scanned};
 ghost use Rattle.order2.specs.Blocks.{Gathered};
-use change::CHECKPOINT;
-use change::DELETE;
-use change::UPDATE;
 use change::inner::is_change;
 use change::shape::shaped;
 use crate::BEGIN;
@@ -39,16 +36,16 @@ use wal::inner::entry_at;
 fn known(kind: u8) -> bool
     ensures { λ r. ⌜ r ≡ isKnown kind ⌝ }
 {
-    if kind == UPDATE {
+    if kind == 10 {
         return true;
     }
-    if kind == CHECKPOINT {
+    if kind == 7 {
         return true;
     }
     if kind == 0 {
         return false;
     }
-    kind <= DELETE
+    kind <= 5
 }
 
 // Refusals 5 to 7 of an entry in turn, or 0.
