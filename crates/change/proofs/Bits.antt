@@ -20,7 +20,7 @@ use Rattle.rules.specs.Shape.{isChange}
 use Rattle.rules.specs.Mend.{committed}
 use Rattle.rules.proofs.Tests.{false-true}
 use Rattle.change.specs.Places.{ChangeAt}
-use Rattle.change.specs.Bits.{numberFor, bitIn, weight, bitOf, withBit, Outcomes}
+use Rattle.change.specs.Bits.{numberFor, spanOfByte, bitIn, weight, bitOf, withBit, Outcomes}
 use Rattle.change.proofs.Places.{change-apart, change-size, split-at, met-place}
 
 -- ---- the bits of one number
@@ -89,6 +89,11 @@ module _ (bits : List ℕ) (p : ℕ) (room : numberFor p / 8 < length bits) wher
 pub numbers-apart : {s : List ℕ} {p q : ℕ} → ChangeAt s p → ChangeAt s q → p < q → numberFor p < numberFor q
 unfolding numberFor
 numbers-apart c d h = omega (arith, change-apart c d h, change-size c .2)
+
+-- the bit of a change is one of those that n bytes have, where they span the log
+pub number-within : {s : List ℕ} {p : ℕ} (n : ℕ) → ChangeAt s p → length s ≤ spanOfByte * n → numberFor p / 8 < n
+unfolding numberFor
+number-within n c h = let k = change-size c in omega (arith, k .0, k .1, k .2)
 
 -- ---- told entry by entry
 

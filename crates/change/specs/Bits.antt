@@ -20,6 +20,10 @@ shortestChange = 77
 unfoldable pub numberFor : ℕ → ℕ
 numberFor p = (p - first) / shortestChange
 
+-- so many bytes of a log have their bits in one byte
+abbrev pub spanOfByte : ℕ
+spanOfByte = 616
+
 -- bit j of a number, the lowest is bit 0, and what that bit counts
 unfoldable pub bitIn : ℕ → ℕ → Bool
 bitIn zero n = eqb (n % 2) 1
