@@ -2,7 +2,7 @@
 use Prim.Native.Nat.{ℕ, zero, suc, _+_, _-_, _*_, _/_, _%_, _≤_, _<_, _^_}
 use mathlib.Core.Path.{_≡_, refl, sym, ap, _∙_, subst}
 use mathlib.Core.Bool.{Bool, true, false}
-use mathlib.Core.List.{List, [], _∷_, _++_}
+use mathlib.Core.List.{List, _∷_, _++_}
 use native.Mathlib.Omega.{arith}
 use native.Mathlib.Nat.{pow-succ', div-one, div-div-eq-div-mul, one-mul}
 use native.Mathlib.Numerals.{one-add}
@@ -10,7 +10,7 @@ use lib.Pow.{shl-exact}
 use lib.ListN.{length, getD, set, length-set}
 use lib.Seq.{getD-set-same, getD-set-other}
 use lib.Dec.{eqb, lit<}
-use borrow.Author.Tests.{eq-eqb, ne-eqb, eqb-true, eqb-false}
+use borrow.Author.Tests.{eq-eqb, eqb-true, eqb-false}
 use Rattle.endian.specs.Pick.{pick}
 use Rattle.wal.specs.Entry.{Entry, sizesOf}
 use Rattle.wal.specs.Walk.{entries}
@@ -18,7 +18,6 @@ use Rattle.wal.specs.Read.{lengthAt}
 use Rattle.wal.specs.Prefix.{said, before, onward}
 use Rattle.rules.specs.Shape.{isChange}
 use Rattle.rules.specs.Mend.{committed}
-use Rattle.rules.proofs.Tests.{false-true}
 use Rattle.change.specs.Places.{ChangeAt}
 use Rattle.change.specs.Bits.{numberFor, spanOfByte, bitIn, weight, bitOf, withBit, Outcomes}
 use Rattle.change.proofs.Places.{change-apart, change-size, split-at, met-place}

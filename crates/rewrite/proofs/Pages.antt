@@ -1,8 +1,8 @@
 -- One page mended: as it was where it is untouched, else repacked. Assumes nothing.
-use mathlib.Core.Path.{_≡_, refl, sym, ap, _∙_}
+use mathlib.Core.Path.{_≡_, refl, sym, _∙_}
 use Prim.Native.Nat.{ℕ, zero, suc, _+_, _*_, _<_}
 use native.Mathlib.Omega.{arith}
-use mathlib.Core.List.{List, _++_, append-nil}
+use mathlib.Core.List.{List, append-nil}
 use lib.ListN.{length, drop-of-length-le}
 use lib.Seq.{paste, take-all}
 use borrow.Author.Tests.{lt-ltb, le-ltb}

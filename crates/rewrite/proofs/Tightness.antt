@@ -1,12 +1,12 @@
 -- Whether a page has room. Assumes nothing.
-use Prim.Native.Nat.{ℕ, _≤_, _<_}
+use Prim.Native.Nat.{ℕ, _<_}
 use mathlib.Core.Path.{_≡_}
 use mathlib.Core.Bool.{true, false}
 use mathlib.Core.List.{List}
 use native.Mathlib.Decide.{decLt}
 use native.Mathlib.Omega.{arith}
 use lib.Dec.{ltb}
-use borrow.Author.Tests.{lt-ltb, le-ltb}
+use borrow.Author.Tests.{lt-ltb}
 use Rattle.wal.specs.Walk.{entries}
 use Rattle.page.specs.Layout.{bodyBytes, slotLimit, pageAt, idOf}
 use Rattle.page.specs.Packed.{roomFor}

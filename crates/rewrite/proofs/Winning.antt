@@ -1,15 +1,15 @@
 -- What the cell of a slot names, by the list of the page's changes: the change that wins. Assumes nothing.
-use Prim.Native.Nat.{ℕ, zero, suc, _+_, _*_, _/_, _%_, _≤_, _<_}
+use Prim.Native.Nat.{ℕ, suc, _+_, _*_, _/_, _%_, _≤_, _<_}
 use mathlib.Core.Path.{_≡_, refl, sym, ap, ap₂, _∙_, subst}
 use mathlib.Core.Bool.{Bool, true, false}
 use mathlib.Core.List.{List, [], _∷_, map}
 use native.Mathlib.Decide.{decLt}
 use native.Mathlib.Omega.{arith}
-use lib.ListN.{length, getD}
+use lib.ListN.{length}
 use lib.Dec.{eqb}
 use borrow.Author.Tests.{ne-eqb}
 use Rattle.endian.specs.Pick.{pick, consIf}
-use Rattle.wal.specs.Entry.{Entry, sizeOf, entryOf}
+use Rattle.wal.specs.Entry.{entryOf}
 use Rattle.wal.specs.Read.{lengthAt, view}
 use Rattle.wal.specs.Walk.{entries, views}
 use Rattle.wal.specs.Prefix.{Met, Stands, entryIn, said}
@@ -20,7 +20,7 @@ use Rattle.rules.specs.Shape.{ChangeOf, both, isOn, slotOf}
 use Rattle.rules.specs.Mend.{committed, lastAfter, winner, topOf}
 use Rattle.rules.specs.Row.{changesBy}
 use Rattle.rules.proofs.Standings.{mapped, winner-mapped}
-use Rattle.change.specs.Places.{AllShaped, ChangeAt, ChangeOn, slotsOf, hasSlot, placesOn, topAt, Each}
+use Rattle.change.specs.Places.{AllShaped, ChangeAt, slotsOf, hasSlot, placesOn, topAt, Each}
 use Rattle.change.specs.Bits.{bitOf, Outcomes}
 use Rattle.change.proofs.Places.{said-size, change-on, slot-has, places-each, places-top, touched-none}
 use Rattle.rewrite.specs.Cells.{won, noted, notedOn, cellFrom, Cells, marks, Decided, PageDecided}

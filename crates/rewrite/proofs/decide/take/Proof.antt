@@ -1,5 +1,5 @@
 use Prim.Native.Nat.{_-_, _≤_, _<_}
-use mathlib.Core.Path.{_≡_, refl, _∙_}
+use mathlib.Core.Path.{_≡_, refl}
 use native.Mathlib.Omega.{arith}
 use lib.ListN.{length, length-set}
 use borrow.Author.Needs.{needs}
@@ -16,18 +16,15 @@ Inv-loop log place wins cells₀ n i₀ cells i = (i ≤ n) × (length cells ≡
 abbrev μ-loop : tie.MeasureT-loop
 μ-loop log place wins cells₀ n i₀ cells i = n - i
 
-slot-count-requires : tie.Need-slot-count-requires Inv-loop μ-loop
-slot-count-requires c κs = search needs
-
 loop-holds : tie.Need-loop-holds Inv-loop μ-loop
 loop-holds c = (omega arith, refl, noting-none)
-
-slot-at-requires : tie.Need-slot-at-requires Inv-loop μ-loop
-slot-at-requires c κs = (c .before .before .before .before .before .pre .0, omega (arith, c .loop-test .taken, c .before .before .slot-count .ensures))
 
 -- number i of the slots
 within : (c : tie.In-loop Inv-loop μ-loop) → c .before .loop .i < length (slotsOf (said (c .before .before .before .before .before .args .log .now) (c .before .before .before .before .before .args .place)))
 within c = omega (arith, c .loop-test .taken, c .before .before .slot-count .ensures)
+
+slot-at-requires : tie.Need-slot-at-requires Inv-loop μ-loop
+slot-at-requires c κs = (c .before .before .before .before .before .pre .0, within c)
 
 -- it has a cell
 below : (c : tie.After-slot-at Inv-loop μ-loop) → c .slot-at .result < length (c .before .before .loop .cells)
@@ -53,9 +50,6 @@ mul-cells c = let h = below (c .before .before) in search needs
 slice-write-cells : tie.Need-slice-write-cells Inv-loop μ-loop
 slice-write-cells c = below (c .before .before)
 
-add-i : tie.Need-add-i Inv-loop μ-loop
-add-i c = search needs
-
 loop-less : tie.Need-loop-less Inv-loop μ-loop
 loop-less c = let t = c .before .before .before .loop-test .taken in omega arith
 
@@ -79,7 +73,7 @@ take-spec =
     (tie.spec
     Inv-loop
     μ-loop
-    slot-count-requires
+    (λ c κs. search needs)
     loop-holds
     slot-at-requires
     mul-note
@@ -87,7 +81,7 @@ take-spec =
     note-requires
     mul-cells
     slice-write-cells
-    add-i
+    (λ c. search needs)
     loop-less
     loop-again
     same-length

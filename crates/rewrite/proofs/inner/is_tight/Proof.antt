@@ -1,5 +1,4 @@
 use Prim.Native.Nat.{_<_}
-use mathlib.Core.Path.{_≡_, _∙_}
 use native.Mathlib.Omega.{arith}
 use Rattle.wal.specs.Walk.{entries}
 use Rattle.page.specs.Layout.{idOf}

@@ -1,7 +1,7 @@
 use Prim.Native.Nat.{ℕ, _≤_, _<_}
-use mathlib.Core.Path.{_≡_, refl, _∙_}
+use mathlib.Core.Path.{refl, _∙_}
 use native.Mathlib.Omega.{arith}
-use lib.ListN.{length, length-replicate}
+use lib.ListN.{length-replicate}
 use Rattle.wal.specs.Walk.{entries}
 use Rattle.page.specs.Layout.{slotLimit, idOf}
 use Rattle.rules.specs.Mend.{topOf}
