@@ -42,8 +42,7 @@ take-requires : tie.Need-take-requires Inv-loop μ-loop
 take-requires c κs =
     let s = c .before .before .before .before .before .before .before .before .before .before .before .before .before in
     let l = c .before .before .before .before in
-    let t = c .before .before .before .loop-test .taken in
-    (
+    let t = c .before .before .before .loop-test .taken in (
       listed (c .before .before .before),
       (
         s .pre .1 .0,
