@@ -14,14 +14,15 @@ use Rattle.wal.specs.Walk.{entries, endOf}
 use Rattle.wal.specs.Prefix.{Met, Stands, entryIn, said, before, onward}
 use Rattle.wal.proofs.Prefix.{Along, start, more, along, stands-at, met-split, met-end, met-below, met-from, before-first, before-next, before-end, onward-next}
 use Rattle.wal.proofs.Places.{size-of}
-use Rattle.rules.specs.Shape.{isChange, isShaped, isOn, pageOf, slotOf, topOn, lsnOn}
+use Rattle.rules.specs.Shape.{either, isChange, isShaped, isOn, pageOf, slotOf, topOn, lsnOn}
 use Rattle.rules.specs.Order.{one, count, lastLsn}
 use Rattle.rules.specs.Mend.{topOf, lastOn}
 use Rattle.rules.proofs.OrderLaws.{last-snoc, lsn-le}
 use Rattle.rules.proofs.Slots.{top-append, last-append}
-use Rattle.rules.proofs.Tests.{both-true}
+use Rattle.rules.proofs.Tests.{both-true, false-true, either-none}
+use lib.Dec.{eqb}
 use borrow.Author.Tests.{eqb-true, eq-eqb}
-use Rattle.change.specs.Places.{AllShaped, LsnsRise, ChangeAt, ChangeOn, placesOn, topAt}
+use Rattle.change.specs.Places.{AllShaped, LsnsRise, ChangeAt, ChangeOn, slotsOf, hasSlot, topSlot, placesOn, topAt, Each}
 use Rattle.change.proofs.Keys.{change-long}
 
 -- ---- on plain lists
@@ -136,10 +137,6 @@ module _ (s : List ℕ) (i : ℕ) where
 
 -- ---- each of them
 
--- every element of a list
-pub record Each (P : ℕ → Type 0) (ps : List ℕ) : Type 0 where
-  pub at : (j : ℕ) → j < length ps → P (getD ps j 0)
-
 each-none : (P : ℕ → Type 0) → Each P []
 each-none P = record { at = λ j h. absurd (omega arith) }
 
@@ -165,26 +162,60 @@ module _ {s : List ℕ} (i : ℕ) (a : AllShaped (entries s)) where
 
 -- ---- what they tell of the page
 
+-- the slots of a change of page i, and how high they go
+module _ (i : ℕ) (e : Entry) where
+  pub top-slots : isOn i e ≡ true → topOn i e ≡ topSlot (slotsOf e)
+  unfolding topOn slotsOf topSlot
+  top-slots h = rw h (omega arith)
+
+  top-one : (s : List ℕ) (p : ℕ) → e ≡ said s p → (b : Bool) → isOn i e ≡ b → topAt s (consIf b p []) ≡ topOn i e
+  unfolding topAt topOn
+  top-one s p z true h = omega (arith, top-slots h, ap (λ (f : Entry). topSlot (slotsOf f)) z)
+  top-one s p z false h = rw h
+
+  -- the one slot that effects are on
+  pub slot-has : (k : ℕ) → eqb (slotOf e) k ≡ hasSlot k (slotsOf e)
+  unfolding slotsOf hasSlot
+  slot-has k = sym (either-none (eqb (slotOf e) k))
+
+-- each slot is below the top
+pub slot-below : (ks : List ℕ) (j : ℕ) → j < length ks → getD ks j 0 < topSlot ks
+unfolding topSlot
+slot-below [] j h = absurd (omega arith)
+slot-below (k ∷ ks) zero h = omega arith
+slot-below (k ∷ ks) (suc j) h = omega (arith, slot-below ks j (omega arith))
+
+pub slot-low : (ks : List ℕ) (k : ℕ) → hasSlot k ks ≡ true → k < topSlot ks
+unfolding topSlot hasSlot
+slot-low [] k h = false-true h
+slot-low (j ∷ ks) k h = go (eqb j k) refl h (slot-low ks k)
+  where
+    go : (b : Bool) → eqb j k ≡ b → either b (hasSlot k ks) ≡ true → (hasSlot k ks ≡ true → k < topSlot ks) → k < max (suc j) (topSlot ks)
+    go true q r f = omega (arith, eqb-true j k q)
+    go false q r f = omega (arith, f r)
+
+-- and so is that of each place
+pub top-within : (s ps : List ℕ) (j : ℕ) → j < length ps → topSlot (slotsOf (said s (getD ps j 0))) ≤ topAt s ps
+unfolding topAt
+top-within s [] j h = absurd (omega arith)
+top-within s (p ∷ ps) zero h = omega arith
+top-within s (p ∷ ps) (suc j) h = omega (arith, top-within s ps j (omega arith))
+
 module _ (s : List ℕ) (i : ℕ) where
-  top-at-append : (ps qs : List ℕ) → topAt s i (ps ++ qs) ≡ max (topAt s i ps) (topAt s i qs)
+  top-at-append : (ps qs : List ℕ) → topAt s (ps ++ qs) ≡ max (topAt s ps) (topAt s qs)
   unfolding topAt
   top-at-append [] qs = omega arith
   top-at-append (p ∷ ps) qs = omega (arith, top-at-append ps qs)
 
-  top-at-one : (b : Bool) (p : ℕ) → isOn i (said s p) ≡ b → topAt s i (consIf b p []) ≡ topOn i (said s p)
-  unfolding topAt topOn
-  top-at-one true p h = omega arith
-  top-at-one false p h = rw h
-
-  top-along : {p : ℕ} → Along s p → topOf i (before s p) ≡ topAt s i (placesTo s i p)
+  top-along : {p : ℕ} → Along s p → topOf i (before s p) ≡ topAt s (placesTo s i p)
   unfolding topOf topAt placesOn
   top-along start = rw (before-first s)
   top-along (more {p = q} l m h e) =
       rw e
-      (omega (arith, ap (topOf i) (before-next s m h), ap (topAt s i) (places-next s i m h), top-append i (before s q) (said s q ∷ []), top-at-append (placesTo s i q) (consIf (isOn i (said s q)) q []), top-at-one (isOn i (said s q)) q refl, top-along l))
+      (omega (arith, ap (topOf i) (before-next s m h), ap (topAt s) (places-next s i m h), top-append i (before s q) (said s q ∷ []), top-at-append (placesTo s i q) (consIf (isOn i (said s q)) q []), top-one i (said s q) s q refl (isOn i (said s q)) refl, top-along l))
 
   -- its top is the highest of theirs
-  pub places-top : topOf i (entries s) ≡ topAt s i (placesOn i (entries s) 32)
+  pub places-top : topOf i (entries s) ≡ topAt s (placesOn i (entries s) 32)
   places-top = rw (sym (places-end s i), sym (before-end s)) (top-along (along (met-end s)))
 
 -- ---- the LSN of the last of some places; d where there is none
