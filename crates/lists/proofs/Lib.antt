@@ -1,2 +1,5 @@
 pub mod Sums
+pub mod Standing
 pub mod Surveying
+pub mod Turns
+pub mod Filling

@@ -1,2 +1,3 @@
 // What other crates call with a `requires`: where the list of each page starts, the lists of a group of pages, and the outcomes of changes.
+pub mod fill;
 pub mod survey;
