@@ -1,12 +1,15 @@
 -- The outcome bits: one set, and the others kept. Assumes nothing.
 use Prim.Native.Nat.{ℕ, zero, suc, _+_, _-_, _*_, _/_, _%_, _≤_, _<_, _^_}
-use mathlib.Core.Path.{_≡_, refl, sym, ap, _∙_}
+use mathlib.Core.Path.{_≡_, refl, sym, ap, _∙_, subst}
 use mathlib.Core.Bool.{Bool, true, false}
 use mathlib.Core.List.{List, [], _∷_, _++_}
 use native.Mathlib.Omega.{arith}
+use native.Mathlib.Nat.{pow-succ', div-one, div-div-eq-div-mul, one-mul}
+use native.Mathlib.Numerals.{one-add}
+use lib.Pow.{shl-exact}
 use lib.ListN.{length, getD, set, length-set}
 use lib.Seq.{getD-set-same, getD-set-other}
-use lib.Dec.{eqb}
+use lib.Dec.{eqb, lit<}
 use borrow.Author.Tests.{eq-eqb, ne-eqb, eqb-true, eqb-false}
 use Rattle.endian.specs.Pick.{pick}
 use Rattle.wal.specs.Entry.{Entry, sizesOf}
@@ -94,3 +97,48 @@ pub outcomes-by : (s bits : List ℕ)
     → Outcomes s bits
 outcomes-by s bits f =
     record { at = λ p c. ap (bitOf bits) (sym (met-place (c .met))) ∙ f (before s p) (said s p) (onward s (p + lengthAt s p)) (split-at (c .met) (c .stands)) (c .change) }
+
+-- ---- as code reads and writes them
+
+weight-pow : (j : ℕ) → weight j ≡ 2 ^ j
+unfolding weight
+weight-pow zero = refl
+weight-pow (suc j) = ap (λ (n : ℕ). 2 * n) (weight-pow j) ∙ sym (pow-succ' 2 j)
+
+bit-shifted : (j n : ℕ) → eqb (n / 2 ^ j % 2) 1 ≡ bitIn j n
+unfolding bitIn
+bit-shifted zero n = ap (λ (m : ℕ). eqb (m % 2) 1) (div-one n)
+bit-shifted (suc j) n = ap (λ (m : ℕ). eqb (m % 2) 1) (ap (λ (m : ℕ). n / m) (pow-succ' 2 j) ∙ sym (div-div-eq-div-mul n 2 (2 ^ j))) ∙ bit-shifted j (n / 2)
+
+weight-shifted : (j : ℕ) → j < 8 → (1 * 2 ^ j) % 2 ^ 8 ≡ weight j
+weight-shifted j h = shl-exact {a = 1} 1 j 8 (lit< tt) (subst (λ (x : ℕ). x ≤ 8) (sym (one-add j)) h) ∙ one-mul (2 ^ j) ∙ sym (weight-pow j)
+
+-- a byte with an unset bit has room for it
+bit-fits : (m j n : ℕ) → j < m → n < weight m → bitIn j n ≡ false → n + weight j < weight m
+unfolding bitIn weight
+bit-fits zero j n l h q = absurd (omega arith)
+bit-fits (suc m) zero n l h q = let z : n % 2 ≡ 1 → ⊥ = eqb-false _ _ q in omega arith
+bit-fits (suc m) (suc j) n l h q = omega (arith, bit-fits m j (n / 2) (omega arith) (omega arith) q)
+
+-- one that is set
+pub bit-stays : (bits : List ℕ) (p : ℕ) {b : Bool} → b ≡ bitOf bits p → b ≡ true → bits ≡ withBit bits p
+unfolding withBit
+bit-stays bits p f t = sym (rw (sym f ∙ t))
+
+module _ (bits : List ℕ) (p : ℕ) {n : ℕ} (e : n ≡ numberFor p) where
+  pub bit-read : eqb (getD bits (n / 8) 0 / 2 ^ (n % 8) % 2) 1 ≡ bitOf bits p
+  unfolding bitOf
+  bit-read = rw e (bit-shifted (numberFor p % 8) (getD bits (numberFor p / 8) 0))
+
+  module _ {b : Bool} (f : b ≡ bitOf bits p) (t : b ≡ false) where
+    unset : bitIn (n % 8) (getD bits (n / 8) 0) ≡ false
+    unfolding bitOf
+    unset = rw e (sym f ∙ t)
+
+    pub bit-room : getD bits (n / 8) 0 < 256 → getD bits (n / 8) 0 + (1 * 2 ^ (n % 8)) % 2 ^ 8 < 256
+    unfolding weight
+    bit-room h = rw (weight-shifted (n % 8) (omega arith)) (bit-fits 8 (n % 8) (getD bits (n / 8) 0) (omega arith) h unset)
+
+    pub bit-written : set bits (n / 8) (getD bits (n / 8) 0 + (1 * 2 ^ (n % 8)) % 2 ^ 8) ≡ withBit bits p
+    unfolding withBit
+    bit-written = rw (weight-shifted (n % 8) (omega arith), e) (sym (rw (sym f ∙ t)))

@@ -1,10 +1,10 @@
 -- Where the page and the slot of a change stand in the log, and how long it is at least. Assumes nothing.
-use Prim.Native.Nat.{ℕ, _+_, _≤_}
+use Prim.Native.Nat.{ℕ, zero, suc, _+_, _≤_, _<_}
 use native.Mathlib.Omega.{arith}
-use mathlib.Core.Path.{_≡_, sym, ap, _∙_}
+use mathlib.Core.Path.{_≡_, refl, sym, ap, _∙_}
 use mathlib.Core.Bool.{Bool, true, false}
 use mathlib.Core.List.{List}
-use lib.ListN.{length, take, drop, length-drop}
+use lib.ListN.{length, getD, take, drop, length-drop}
 use lib.Seq.{length-take-le}
 use lib.Dec.{leb, eqb}
 use borrow.Author.Tests.{leb-true, eqb-true}
@@ -19,6 +19,7 @@ use Rattle.wal.proofs.Prefix.{stands-at}
 use Rattle.wal.proofs.Places.{size-of}
 use Rattle.rules.specs.Shape.{both, either, isChange, isChanging, isImage, isNone, same, isKey, isKeyed, isBare, isShaped, pageOf, slotOf}
 use Rattle.rules.proofs.Tests.{both-true, false-true}
+use Rattle.change.specs.Places.{ChangeAt, slotsOf, topSlot}
 
 -- an image has 24 bytes or more
 image-long : (t : List ℕ) → isImage t ≡ true → 24 ≤ length t
@@ -73,3 +74,16 @@ key-at {s} {p} h change shaped =
       slot = ap (numberAt 2 8) key ∙ number-take 2 8 10 (drop (p + 27) s) (omega arith) ∙ number-drop 2 8 (p + 27) s ∙ ap (λ (q : ℕ). numberAt 2 q s) (omega arith);
       room = omega (arith, k .room, k .inner);
     }
+
+pub key-of : {s : List ℕ} {p : ℕ} → ChangeAt s p → KeyAt s p
+key-of c = key-at (c .stands) (c .change) (c .shaped)
+
+-- its one slot
+pub slot-is : (e : Entry) (j : ℕ) → j < length (slotsOf e) → slotOf e ≡ getD (slotsOf e) j 0
+unfolding slotsOf
+slot-is e zero h = refl
+slot-is e (suc j) h = absurd (omega arith)
+
+pub top-is : (e : Entry) → topSlot (slotsOf e) ≡ slotOf e + 1
+unfolding slotsOf topSlot
+top-is e = omega arith

@@ -14,7 +14,7 @@ returns-3 : tie.Need-returns-3
 returns-3 c = c .update-shaped .ensures ∙ sym (update-shaped (c .before .before .before .before .before .before .before .before .pre) (c .before .if3 .taken))
 
 returns-4 : tie.Need-returns-4
-returns-4 c = c .bare-zero .ensures ∙ sym (checkpoint-shaped (c .before .before .before .before .before .before .before .before .before .before .pre) (c .before .if4 .taken))
+returns-4 c = c .bare-zero .ensures ∙ sym (checkpoint-shaped (c .before .before .before .before .before .before .before .before .before .before .before .pre) (c .before .before .if4 .taken))
 
 returns-5 : tie.Need-returns-5
 returns-5 c =
