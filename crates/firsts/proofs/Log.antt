@@ -14,13 +14,13 @@ use Rattle.wal.specs.Prefix.{Met, Stands, said, before, onward}
 use Rattle.wal.proofs.Places.{size-of}
 use Rattle.wal.proofs.Prefix.{Along, start, more, along, stands-at, met-first, met-next, met-below, met-end, met-split, before-first, before-next, before-end, onward-first, onward-next}
 use Rattle.rules.specs.Order.{any, is}
-use Rattle.firsts.specs.First.{isEnding, Tells, FirstOf}
+use Rattle.firsts.specs.First.{placesOf, isEnding, Tells, FirstOf}
 use Rattle.firsts.specs.Tests.{beginRight, endRight, beginTest, endTest}
 use Rattle.firsts.specs.Clash.{someSlot, marksOn, openOther, openAt}
 use Rattle.firsts.proofs.FirstLaws.{sizes-append, tells-of, first-zero}
 use Rattle.firsts.proofs.Orders.{begin-test, end-test}
 use Rattle.firsts.proofs.Clashes.{open-at}
-use Rattle.firsts.proofs.Walks.{marks-snoc}
+use Rattle.firsts.proofs.Walks.{places-snoc, marks-snoc}
 
 module _ (s : List ℕ) where
   -- a place is where the sizes of the entries before it lead
@@ -129,3 +129,13 @@ module _ (s : List ℕ) where
   marks-next slots i {p} m h =
       ap (λ (l : List Entry). marksOn slots i l 32) (before-next s m h) ∙ marks-snoc slots i (before s p) (said s p) 32
       ∙ ap (λ (x : ℕ). marksOn slots i (before s p) 32 ++ consIf (someSlot (λ k. true) (slots i (said s p))) (record { place = x; entry = said s p }) []) (sym (place-is m))
+
+  -- the places that pass after one entry more
+  pub places-next : (f : Entry → Bool) {p : ℕ} → Met s p → Stands s p → placesOf f (before s (p + lengthAt s p)) 32 ≡ placesOf f (before s p) 32 ++ consIf (f (said s p)) p []
+  places-next f {p} m h =
+      ap (λ (l : List Entry). placesOf f l 32) (before-next s m h) ∙ places-snoc f (before s p) (said s p) 32
+      ∙ ap (λ (x : ℕ). placesOf f (before s p) 32 ++ consIf (f (said s p)) x []) (sym (place-is m))
+
+  pub places-first : (f : Entry → Bool) → placesOf f (before s 32) 32 ≡ []
+  unfolding placesOf
+  places-first f = rw (before-first s)

@@ -11,6 +11,7 @@ use Rattle.endian.specs.Pick.{pick, consIf}
 use Rattle.wal.specs.Entry.{Entry, sizeOf, sizesOf}
 use Rattle.rules.specs.Shape.{both}
 use Rattle.rules.proofs.Tests.{false-true}
+use Rattle.firsts.specs.First.{placesOf}
 use Rattle.firsts.specs.Clash.{someSlot, has, Mark, marksOn, openAt, clashAt, noted, clashWalk}
 use Rattle.firsts.proofs.Slots.{some-same}
 
@@ -26,6 +27,21 @@ marks-append slots i (e ∷ es) fs at =
     go : (b : Bool) {l : List Mark} (m n : List Mark) → l ≡ m ++ n → consIf b (record { place = at; entry = e }) l ≡ consIf b (record { place = at; entry = e }) m ++ n
     go true m n h = ap (λ (x : List Mark). record { place = at; entry = e } ∷ x) h
     go false m n h = h
+
+pub places-append : (f : Entry → Bool) (es fs : List Entry) (at : ℕ) → placesOf f (es ++ fs) at ≡ placesOf f es at ++ placesOf f fs (at + sizesOf es)
+unfolding placesOf
+places-append f [] fs at = ap (placesOf f fs) (omega arith)
+places-append f (e ∷ es) fs at =
+    let z : at + sizeOf e + sizesOf es ≡ at + sizesOf (e ∷ es) = omega arith in
+    go (f e) (placesOf f es (at + sizeOf e)) (placesOf f fs (at + sizesOf (e ∷ es))) (places-append f es fs (at + sizeOf e) ∙ ap (λ (p : ℕ). placesOf f es (at + sizeOf e) ++ placesOf f fs p) z)
+  where
+    go : (b : Bool) {l : List ℕ} (m n : List ℕ) → l ≡ m ++ n → consIf b at l ≡ consIf b at m ++ n
+    go true m n h = ap (λ (x : List ℕ). at ∷ x) h
+    go false m n h = h
+
+pub places-snoc : (f : Entry → Bool) (es : List Entry) (e : Entry) (at : ℕ) → placesOf f (es ++ (e ∷ [])) at ≡ placesOf f es at ++ consIf (f e) (at + sizesOf es) []
+unfolding placesOf
+places-snoc f es e at = places-append f es (e ∷ []) at
 
 -- one entry more
 pub marks-snoc : (slots : ℕ → Entry → List ℕ) (i : ℕ) (es : List Entry) (e : Entry) (at : ℕ)

@@ -3,8 +3,8 @@ use Prim.Native.Nat.{ℕ, _+_, _≤_, _<_}
 use mathlib.Core.Path.{_≡_}
 use mathlib.Core.List.{List, [], _∷_, _++_}
 use mathlib.Core.Bool.{Bool}
-use lib.Dec.{ltb}
-use Rattle.endian.specs.Pick.{pick}
+use lib.Dec.{ltb, eqb}
+use Rattle.endian.specs.Pick.{pick, consIf}
 use Rattle.wal.specs.Entry.{Entry, sizeOf, sizesOf, commit, rollback}
 use Rattle.rules.specs.Shape.{either}
 use Rattle.rules.specs.Order.{any, is}
@@ -13,6 +13,15 @@ use Rattle.rules.specs.Order.{any, is}
 unfoldable pub firstAt : (Entry → Bool) → List Entry → ℕ → ℕ
 firstAt f [] at = at
 firstAt f (e ∷ es) at = pick (f e) at (firstAt f es (at + sizeOf e))
+
+-- the places of all entries that pass, in their order
+unfoldable pub placesOf : (Entry → Bool) → List Entry → ℕ → List ℕ
+placesOf f [] at = []
+placesOf f (e ∷ es) at = consIf (f e) at (placesOf f es (at + sizeOf e))
+
+-- a Commit or a Rollback
+abbrev pub isEnd : Entry → Bool
+isEnd e = either (eqb (e .kind) commit) (eqb (e .kind) rollback)
 
 -- a Commit or a Rollback of t
 abbrev pub isEnding : ℕ → Entry → Bool

@@ -1,0 +1,5 @@
+pub mod Gathering
+pub mod Tellings
+pub mod Wrongs
+pub mod Scans
+pub mod Joining
