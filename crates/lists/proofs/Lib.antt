@@ -3,3 +3,5 @@ pub mod Standing
 pub mod Surveying
 pub mod Turns
 pub mod Filling
+pub mod Endings
+pub mod Marking

@@ -39,6 +39,9 @@ module _ {s : List ℕ} {p : ℕ} where
   pub shaped-at : {stop : ℕ} → AllShaped (before s stop) → Met s stop → Met s p → p < stop → ShapedAt s p
   shaped-at a n m h = let w = split-to n m h in record { met = m; stands = met-below s m n h .stands; shaped = a .at (before s p) (said s p) (w .rest) (w .is) }
 
+  pub shaped-all : AllShaped (entries s) → Met s p → Stands s p → ShapedAt s p
+  shaped-all a m h = record { met = m; stands = h; shaped = a .at (before s p) (said s p) (onward s (p + lengthAt s p)) (split-at m h) }
+
   pub change-here : ShapedAt s p → isChange (said s p) ≡ true → ChangeAt s p
   change-here k c = record { met = k .met; stands = k .stands; change = c; shaped = k .shaped }
 

@@ -1,2 +1,37 @@
-// The changes of each page in the order of the log, what became of each, and the counts of the answer. There is no public entry.
+// The changes of each page in the order of the log, what became of each, and the counts of the answer. What needs a `requires` is in `inner`.
+use endian::TxnNumber;
+
 pub mod inner;
+
+// Transactions by outcome, changes by the outcome of their transaction, and changes of transaction 0.
+pub struct Tally {
+    pub committed: u64,
+    pub rolled_back: u64,
+    pub unended: u64,
+    pub changes_committed: u64,
+    pub changes_rolled_back: u64,
+    pub changes_unended: u64,
+    pub changes_zero: u64,
+}
+
+// Transaction numbers from lo to hi, whose endings are known up to the place `end`.
+pub struct Range {
+    pub lo: TxnNumber,
+    pub hi: TxnNumber,
+    pub end: usize,
+}
+
+// The types of entries that begin, commit and roll back a transaction, and where the type stands behind the start of an entry.
+pub const BEGIN: u8 = 1;
+
+pub const COMMIT: u8 = 2;
+
+pub const ROLLBACK: u8 = 3;
+
+pub const KIND_AT: usize = 20;
+
+// Entries are counted by so many sorts.
+pub const SORTS: usize = 8;
+
+// The highest transaction number.
+pub const TOP: u64 = 18446744073709551615;

@@ -1,0 +1,3 @@
+// The search for the first clash, page by page over the lists of changes, for one block of endings after the other.
+pub mod page;
+pub mod slot;
