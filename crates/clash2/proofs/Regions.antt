@@ -103,7 +103,7 @@ module _ (lo hi pg : ℕ) where
           ∙ ap (λ (x : Bool). either (ltb i pg) (both (eqb i pg) x)) (window-slots w n k)
           ∙ inside (eqb i pg) (ltb i pg)
           ∙ sym (ap (λ (x : Bool). either x (pageSlots pg (lookedAt w n lo hi) i k t)) (in-block w i k t (omega arith) (omega arith))
-            ∙ ap (λ (x : Bool). either (either (ltb i pg) (both (eqb i pg) (ltb k w))) (both (eqb i pg) x)) (ap (both (inWindow w n k)) (range-in lo hi t (omega arith) (omega arith)) ∙ whole (inWindow w n k)))
+          ∙ ap (λ (x : Bool). either (either (ltb i pg) (both (eqb i pg) (ltb k w))) (both (eqb i pg) x)) (ap (both (inWindow w n k)) (range-in lo hi t (omega arith) (omega arith)) ∙ whole (inWindow w n k)))
 
   pub searched-window : {s : List ℕ} {stop limit r : ℕ} (w n : ℕ) → Searched s stop lo hi pg w limit → FirstOf (ClashIn slotsOn (pageSlots pg (lookedAt w n lo hi))) (entries s) 32 limit r → Searched s stop lo hi pg (w + n) r
   searched-window w n f g = slots-join (region lo hi pg w) (pageSlots pg (lookedAt w n lo hi)) (region lo hi pg (w + n)) (λ i k t. window w n i k t) f g

@@ -137,12 +137,12 @@ module _ {s : List ℕ} {stop lo hi : ℕ} {r : List ℕ} (m : Met s stop) (ix :
       first-zero
       (λ n. let h = ending-there n .1 in (ending-there n .0, record { xs = before s q; e = said s q; ys = onward s (q + lengthAt s q); split = split-at s (h .met) (h .stands); place = place-is s (h .met); holds = h .holds }))
       (λ xs e ys p l k.
-        let a = at-split s xs e ys p in
-        let c : isEnding t (said s (32 + sizesOf xs)) ≡ true = ap (isEnding t) (a .entry) ∙ k in
-        let b = both-true (isEnd (said s (32 + sizesOf xs))) (eqb (said s (32 + sizesOf xs) .txn) t) (sym (own-end t (said s (32 + sizesOf xs))) ∙ c) in
-        let z : number s (32 + sizesOf xs) ≡ t = number-said s (32 + sizesOf xs) ∙ eqb-true (said s (32 + sizesOf xs) .txn) t (b .1) in
-        let x : P (32 + sizesOf xs) = (l, record { met = a .met; stands = a .stands; holds = b .0 }) in
-        ((λ w. first-place .none w (32 + sizesOf xs) x z), first-place .least (32 + sizesOf xs) x z))
+      let a = at-split s xs e ys p in
+      let c : isEnding t (said s (32 + sizesOf xs)) ≡ true = ap (isEnding t) (a .entry) ∙ k in
+      let b = both-true (isEnd (said s (32 + sizesOf xs))) (eqb (said s (32 + sizesOf xs) .txn) t) (sym (own-end t (said s (32 + sizesOf xs))) ∙ c) in
+      let z : number s (32 + sizesOf xs) ≡ t = number-said s (32 + sizesOf xs) ∙ eqb-true (said s (32 + sizesOf xs) .txn) t (b .1) in
+      let x : P (32 + sizesOf xs) = (l, record { met = a .met; stands = a .stands; holds = b .0 }) in
+      ((λ w. first-place .none w (32 + sizesOf xs) x z), first-place .least (32 + sizesOf xs) x z))
 
   pub ending-tells : Tells (isEnding t) (entries s) 32 stop (endingAt s r stop t)
   ending-tells = tells-of (isEnding t) ending-first

@@ -12,12 +12,12 @@ ghost use Rattle.lists.specs.Survey.{reach};
 ghost use Rattle.lists.specs.Outcome.{Endings};
 ghost use Rattle.clash2.specs.Newest.{newestBy, CellsIn, lookedAt, endingBy, marksAt, clashesAt, Passed, Within, slotLimit, Wider};
 ghost use Rattle.clash2.specs.Region.{Searched, FirstIn};
-use change::inner::slot_at;
-use change::inner::slot_count;
 use crate::SLOT_LIMIT;
 use crate::Span;
 use crate::inner::slot::meets;
 use crate::inner::slot::note;
+use change::inner::slot_at;
+use change::inner::slot_count;
 use endian::PageNumber;
 use endian::TxnNumber;
 use index::inner::near::GUESSES;
@@ -26,7 +26,15 @@ use lists::Range;
 use lists::inner::survey::blank;
 
 // Whether the change at place clashes. Where it does not, it is now the newest one on its slots.
-fn pass(log: &[u8], place: u32, w: usize, cells: &mut [u32], r: Range, ends: &[u32], guesses: &mut [u32; GUESSES]) -> bool
+fn pass(
+    log: &[u8],
+    place: u32,
+    w: usize,
+    cells: &mut [u32],
+    r: Range,
+    ends: &[u32],
+    guesses: &mut [u32; GUESSES],
+) -> bool
     requires { ⌜ ChangeAt (now log) place ⌝ }
     requires { ⌜ Met (now log) (r .end) ⌝ }
     requires { ⌜ Endings (now log) (r .end) (r .lo .0) (r .hi .0) (now ends) ⌝ }
@@ -45,7 +53,17 @@ fn pass(log: &[u8], place: u32, w: usize, cells: &mut [u32], r: Range, ends: &[u
 }
 
 // The first clash before limit on a page, on the slots of the window from w on, or limit: by the list of the page's changes.
-fn scan(log: &[u8], page: PageNumber, list: &[u32], limit: usize, w: usize, cells: &mut [u32], r: Range, ends: &[u32], guesses: &mut [u32; GUESSES]) -> usize
+fn scan(
+    log: &[u8],
+    page: PageNumber,
+    list: &[u32],
+    limit: usize,
+    w: usize,
+    cells: &mut [u32],
+    r: Range,
+    ends: &[u32],
+    guesses: &mut [u32; GUESSES],
+) -> usize
     requires { ⌜ Met (now log) (r .end) ⌝ }
     requires { ⌜ Endings (now log) (r .end) (r .lo .0) (r .hi .0) (now ends) ⌝ }
     requires { ⌜ Each (ChangeOn (now log) (page .0)) (now list) ⌝ }
@@ -70,7 +88,17 @@ fn scan(log: &[u8], page: PageNumber, list: &[u32], limit: usize, w: usize, cell
 }
 
 // The same from empty cells on.
-fn window(log: &[u8], page: PageNumber, list: &[u32], limit: usize, w: usize, cells: &mut [u32], r: Range, ends: &[u32], guesses: &mut [u32; GUESSES]) -> usize
+fn window(
+    log: &[u8],
+    page: PageNumber,
+    list: &[u32],
+    limit: usize,
+    w: usize,
+    cells: &mut [u32],
+    r: Range,
+    ends: &[u32],
+    guesses: &mut [u32; GUESSES],
+) -> usize
     requires { ⌜ Met (now log) (r .end) ⌝ }
     requires { ⌜ AllShaped (before (now log) (r .end)) ⌝ }
     requires { ⌜ Endings (now log) (r .end) (r .lo .0) (r .hi .0) (now ends) ⌝ }
@@ -145,7 +173,16 @@ fn span(log: &[u8], list: &[u32], w: usize) -> Span
 }
 
 // The first clash so far, and on a page, by the list of its changes before the end of the range: one window of slots after the other, from the lowest slot that is left.
-pub fn page(log: &[u8], page: PageNumber, list: &[u32], limit: usize, cells: &mut [u32], r: Range, ends: &[u32], guesses: &mut [u32; GUESSES]) -> usize
+pub fn page(
+    log: &[u8],
+    page: PageNumber,
+    list: &[u32],
+    limit: usize,
+    cells: &mut [u32],
+    r: Range,
+    ends: &[u32],
+    guesses: &mut [u32; GUESSES],
+) -> usize
     requires { ⌜ Met (now log) (r .end) ⌝ }
     requires { ⌜ AllShaped (before (now log) (r .end)) ⌝ }
     requires { ⌜ Endings (now log) (r .end) (r .lo .0) (r .hi .0) (now ends) ⌝ }
@@ -164,7 +201,17 @@ pub fn page(log: &[u8], page: PageNumber, list: &[u32], limit: usize, cells: &mu
             return best;
         }
         let n = lesser(high - low, cells.len());
-        best = window(log, page, list, best, low, &mut cells[..n], r, ends, guesses);
+        best = window(
+            log,
+            page,
+            list,
+            best,
+            low,
+            &mut cells[..n],
+            r,
+            ends,
+            guesses,
+        );
         w = low + n;
     }
 }

@@ -19,7 +19,15 @@ use index::inner::number_of;
 use lists::Range;
 
 // Whether transaction u, one of the range, is another one than t, not 0, and has not ended before place.
-fn is_open(log: &[u8], place: usize, t: TxnNumber, u: TxnNumber, r: Range, ends: &[u32], guesses: &mut [u32; GUESSES]) -> bool
+fn is_open(
+    log: &[u8],
+    place: usize,
+    t: TxnNumber,
+    u: TxnNumber,
+    r: Range,
+    ends: &[u32],
+    guesses: &mut [u32; GUESSES],
+) -> bool
     requires { ⌜ Met (now log) (r .end) ⌝ }
     requires { ⌜ Endings (now log) (r .end) (r .lo .0) (r .hi .0) (now ends) ⌝ }
     requires { ⌜ (t .0 ≡ said (now log) place .txn) × (place ≤ r .end) ⌝ }
@@ -47,7 +55,17 @@ fn is_open(log: &[u8], place: usize, t: TxnNumber, u: TxnNumber, r: Range, ends:
 }
 
 // Whether the change at place, of transaction t, clashes on slot k, by the cells of the window from w on.
-fn clashes(log: &[u8], place: usize, t: TxnNumber, k: usize, w: usize, cells: &[u32], r: Range, ends: &[u32], guesses: &mut [u32; GUESSES]) -> bool
+fn clashes(
+    log: &[u8],
+    place: usize,
+    t: TxnNumber,
+    k: usize,
+    w: usize,
+    cells: &[u32],
+    r: Range,
+    ends: &[u32],
+    guesses: &mut [u32; GUESSES],
+) -> bool
     requires { ⌜ Met (now log) (r .end) ⌝ }
     requires { ⌜ Endings (now log) (r .end) (r .lo .0) (r .hi .0) (now ends) ⌝ }
     requires { ⌜ (t .0 ≡ said (now log) place .txn) × (place ≤ r .end) ⌝ }
@@ -71,7 +89,16 @@ fn clashes(log: &[u8], place: usize, t: TxnNumber, k: usize, w: usize, cells: &[
 }
 
 // Whether it clashes on one of its slots.
-pub fn meets(log: &[u8], place: usize, t: TxnNumber, w: usize, cells: &[u32], r: Range, ends: &[u32], guesses: &mut [u32; GUESSES]) -> bool
+pub fn meets(
+    log: &[u8],
+    place: usize,
+    t: TxnNumber,
+    w: usize,
+    cells: &[u32],
+    r: Range,
+    ends: &[u32],
+    guesses: &mut [u32; GUESSES],
+) -> bool
     requires { ⌜ ChangeAt (now log) place ⌝ }
     requires { ⌜ Met (now log) (r .end) ⌝ }
     requires { ⌜ Endings (now log) (r .end) (r .lo .0) (r .hi .0) (now ends) ⌝ }
