@@ -26,22 +26,22 @@ use Rattle.clash2.specs.Newest.{owner, inWindow, newestBy, CellsIn, inRa
 -- ---- the transaction u, and the change e at p
 
 module _ (s r : List ℕ) (stop lo hi p u : ℕ) (e : Entry) where
-  abbrev open : Bool
-  open = both (inRange lo hi u) (openAt (endingBy s r stop) p e u)
+  abbrev isOpen : Bool
+  isOpen = both (inRange lo hi u) (openAt (endingBy s r stop) p e u)
 
-  pub open-low : u < lo → false ≡ open
+  pub open-low : u < lo → false ≡ isOpen
   unfolding inRange
   open-low h = sym (rw (lt-leb lo u h))
 
-  pub open-high : hi < u → false ≡ open
+  pub open-high : hi < u → false ≡ isOpen
   unfolding inRange
   open-high h = sym (rw (lt-leb u hi h, both-none (leb lo u)))
 
-  pub open-zero : u ≡ 0 → false ≡ open
+  pub open-zero : u ≡ 0 → false ≡ isOpen
   unfolding openAt
   open-zero h = sym (rw (eq-eqb u 0 h) (both-none (inRange lo hi u)))
 
-  pub open-own : u ≡ e .txn → false ≡ open
+  pub open-own : u ≡ e .txn → false ≡ isOpen
   unfolding openAt
   open-own h = sym (rw (eq-eqb u (e .txn) h) (go (eqb u 0) (inRange lo hi u)))
     where
@@ -50,16 +50,16 @@ module _ (s r : List ℕ) (stop lo hi p u : ℕ) (e : Entry) where
       go false x = both-none x
 
   module _ (low : lo ≤ u) (high : u ≤ hi) (some : u ≡ 0 → ⊥) (other : u ≡ e .txn → ⊥) where
-    open-by : open ≡ not (ltb (endingBy s r stop u) p)
+    open-by : isOpen ≡ not (ltb (endingBy s r stop u) p)
     unfolding inRange openAt
     open-by = rw (le-leb lo u low, le-leb u hi high, ne-eqb u 0 some, ne-eqb u (e .txn) other)
 
     -- no ending before stop
-    pub open-never : p ≤ stop → lookup (number s) u r ≡ 0 → true ≡ open
+    pub open-never : p ≤ stop → lookup (number s) u r ≡ 0 → true ≡ isOpen
     open-never h z = sym (open-by ∙ ap (λ (x : ℕ). not (ltb x p)) (ap (λ (b : Bool). pick b stop (lookup (number s) u r)) (eq-eqb (lookup (number s) u r) 0 z)) ∙ ap not (le-ltb stop p h))
 
     -- one that is not before p
-    pub open-later : {q : ℕ} → q ≡ lookup (number s) u r → (q ≡ 0 → ⊥) → leb p q ≡ open
+    pub open-later : {q : ℕ} → q ≡ lookup (number s) u r → (q ≡ 0 → ⊥) → leb p q ≡ isOpen
     open-later {q} h z =
         sym (open-by ∙ ap (λ (x : ℕ). not (ltb x p)) (ap (λ (b : Bool). pick b stop (lookup (number s) u r)) (ne-eqb (lookup (number s) u r) 0 (λ w. z (h ∙ w))) ∙ sym h) ∙ turned (decLt q p))
       where

@@ -44,46 +44,45 @@ module _ (s : List ℕ) (f : Entry → Bool) where
   next-places : {p q : ℕ} → Met s q → Stands s q → p ≡ q + lengthAt s q → placesOf f (before s p) 32 ≡ placesOf f (before s q) 32 ++ consIf (f (said s q)) q []
   next-places m h e = ap (λ (y : ℕ). placesOf f (before s y) 32) e ∙ places-next s f m h
 
-  from-along : {p : ℕ} → Along s p → (x : ℕ) → Has x (placesOf f (before s p) 32) → (x < p) × Passing x
-  from-along start x h = none-in x (subst (λ (l : List ℕ). Has x l) (places-first s f) h)
-  from-along {p} (more {p = q} w m k e) x h =
-      go (f (said s q)) refl (subst (λ (l : List ℕ). Has x l) (next-places m k e) h)
+  from-more : {p : ℕ} (q : ℕ) → Met s q → Stands s q → p ≡ q + lengthAt s q → (x : ℕ) → (Has x (placesOf f (before s q) 32) → (x < q) × Passing x) → Has x (placesOf f (before s p) 32) → (x < p) × Passing x
+  from-more {p} q m k e x w h = go (f (said s q)) refl (subst (λ (l : List ℕ). Has x l) (next-places m k e) h)
     where
       long : q < p
       long = let b = stands-at k in omega (arith, b .low, b .front)
 
       earlier : Has x (placesOf f (before s q) 32) → (x < p) × Passing x
-      earlier g = let r = from-along w x g in (omega (arith, r .0, long), r .1)
+      earlier g = let r = w g in (omega (arith, r .0, long), r .1)
+
+      cases : f (said s q) ≡ true → Snoc x q (placesOf f (before s q) 32) → (x < p) × Passing x
+      cases z (old n) = earlier n
+      cases z (new n) = (omega (arith, long), subst Passing (sym n) (record { met = m; stands = k; holds = z }))
 
       go : (b : Bool) → f (said s q) ≡ b → Has x (placesOf f (before s q) 32 ++ consIf b q []) → (x < p) × Passing x
-      go true z g = cases (snoc-cases x q (placesOf f (before s q) 32) g)
-        where
-          cases : Snoc x q (placesOf f (before s q) 32) → (x < p) × Passing x
-          cases (old n) = earlier n
-          cases (new n) = (omega (arith, long), subst Passing (sym n) (record { met = m; stands = k; holds = z }))
+      go true z g = cases z (snoc-cases x q (placesOf f (before s q) 32) g)
       go false z g = earlier (subst (λ (l : List ℕ). Has x l) (append-nil (placesOf f (before s q) 32)) g)
+
+  from-along : {p : ℕ} → Along s p → (x : ℕ) → Has x (placesOf f (before s p) 32) → (x < p) × Passing x
+  from-along start x h = none-in x (subst (λ (l : List ℕ). Has x l) (places-first s f) h)
+  from-along (more {p = q} w m k e) x h = from-more q m k e x (from-along w x) h
+
+  to-more : {p : ℕ} (q : ℕ) → Met s q → Stands s q → p ≡ q + lengthAt s q → (x : ℕ) → Met s x → x < p → f (said s x) ≡ true → (x < q → Has x (placesOf f (before s q) 32)) → Has x (placesOf f (before s p) 32)
+  to-more {p} q n k e x m l h w = subst (λ (y : List ℕ). Has x y) (sym (next-places n k e)) (at-it (decLt x q) (decLt q x))
+    where
+      go : (b : Bool) → Has x (placesOf f (before s q) 32) → Has x (placesOf f (before s q) 32 ++ consIf b q [])
+      go true g = snoc-old x q (placesOf f (before s q) 32) g
+      go false g = subst (λ (y : List ℕ). Has x y) (sym (append-nil (placesOf f (before s q) 32))) g
+
+      at-it : Dec (x < q) → Dec (q < x) → Has x (placesOf f (before s q) 32 ++ consIf (f (said s q)) q [])
+      at-it (yes a) b = go (f (said s q)) (w a)
+      at-it (no a) (yes b) = absurd (omega (arith, met-below s n m b .next))
+      at-it (no a) (no b) =
+          let z : x ≡ q = omega arith in
+          let t : f (said s q) ≡ true = ap (λ (y : ℕ). f (said s y)) (sym z) ∙ h in
+          rw (t, z) (snoc-new q (placesOf f (before s q) 32))
 
   to-along : {p : ℕ} → Along s p → (x : ℕ) → Met s x → x < p → f (said s x) ≡ true → Has x (placesOf f (before s p) 32)
   to-along start x m l h = absurd (omega (arith, met-from s m))
-  to-along {p} (more {p = q} w n k e) x m l h = subst (λ (y : List ℕ). Has x y) (sym (next-places n k e)) (at-it (decLt x q))
-    where
-      last : (x < q → ⊥) → x ≡ q
-      last a = back (decLt q x)
-        where
-          back : Dec (q < x) → x ≡ q
-          back (yes b) = absurd (omega (arith, met-below s n m b .next))
-          back (no b) = omega arith
-
-      at-it : Dec (x < q) → Has x (placesOf f (before s q) 32 ++ consIf (f (said s q)) q [])
-      at-it (yes a) = go (f (said s q)) (to-along w x m a h)
-        where
-          go : (b : Bool) → Has x (placesOf f (before s q) 32) → Has x (placesOf f (before s q) 32 ++ consIf b q [])
-          go true g = snoc-old x q (placesOf f (before s q) 32) g
-          go false g = subst (λ (y : List ℕ). Has x y) (sym (append-nil (placesOf f (before s q) 32))) g
-      at-it (no a) =
-          let z : x ≡ q = last a in
-          let t : f (said s q) ≡ true = ap (λ (y : ℕ). f (said s y)) (sym z) ∙ h in
-          rw (t, z) (snoc-new q (placesOf f (before s q) 32))
+  to-along (more {p = q} w n k e) x m l h = to-more q n k e x m l h (λ a. to-along w x m a h)
 
   pub places-from : {p : ℕ} → Met s p → (x : ℕ) → Has x (placesOf f (before s p) 32) → (x < p) × Here s (λ xs e. f e ≡ true) x
   places-from m x h = from-along (along m) x h

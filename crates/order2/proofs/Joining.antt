@@ -29,7 +29,8 @@ use Rattle.firsts.proofs.OrderVerdict.{plain-judged, order-next}
 use Rattle.firsts.proofs.Log.{end-is, log-some}
 use Rattle.order2.specs.First.{told, endNumber, basicFault, basicVerdict, FirstWalk}
 use Rattle.order2.specs.Scanning.{plainVerdict, Sees, Halts, whole, early, late, Scanned, Joined, wrong, others}
-use Rattle.order2.specs.Blocks.{FirstWrong, everyNumber}
+use Rattle.order2.specs.Blocks.{Blocked, FirstWrong, everyNumber}
+use Rattle.order2.specs.declared.Block.{Block}
 use Rattle.order2.specs.declared.Seen.{Seen}
 use Rattle.order2.specs.declared.Scan.{Scan}
 use Rattle.order2.specs.declared.Tested.{Tested}
@@ -39,7 +40,7 @@ use Rattle.order2.proofs.Wrongs.{wrong-order}
 -- ---- the least of the faults of all rules but 9
 
 module _ (full : ℕ → Bool) where
-  least-basic : Least own (Only full butClash) (basicFault full)
+  pub least-basic : Least own (Only full butClash) (basicFault full)
   unfolding basicFault
   least-basic = record { free = free; here = here; least = λ xs e m n h l b. omega (arith, le xs e m b) }
     where
@@ -173,11 +174,11 @@ module _ (full : ℕ → Bool) where
         let k = basic-next s z (subst (λ (y : ℕ). FirstOf (λ xs e. inOrder xs e ≡ false) (entries s) 32 y (suc at)) (sym st) g) ∙ narrowed-none own (endOf s) 8 (suc at) (verdict n at) (omega (arith, st)) in
         rw (ne-eqb n 0 x) (sym (ap (λ (y : Verdict). y then endVerdict (endingOf s) (endOf s)) k ∙ rw (ne-eqb n 0 x)))
 
-    -- number 0 is given at the end only
-    ends-whole : Halts full s n at stop → n ≡ 0 → at ≡ endOf s
-    ends-whole (whole z e p q) x = e
-    ends-whole (early z b u p) x = absurd (b x)
-    ends-whole (late z b h p) x = absurd (omega arith)
+  -- number 0 is given at the end only
+  ends-whole : (s : List ℕ) {n at stop : ℕ} → Halts full s n at stop → n ≡ 0 → at ≡ endOf s
+  ends-whole s (whole z e p q) x = e
+  ends-whole s (early z b u p) x = absurd (b x)
+  ends-whole s (late z b h p) x = absurd (omega arith)
 
   -- the first walk's answer
   pub walked : (s : List ℕ) (c : Scan) (o : Tested) {w : Walked} → Scanned full s (c .number) (c .place) (c .stop) (c .seen) → FirstWrong s everyNumber (c .stop) (o .place) → Joined c o w → FirstWalk full s w
@@ -203,3 +204,14 @@ module _ (full : ℕ → Bool) where
 
       all : w .number ≡ 0 → before s (c .place) ≡ entries s
       all z = ap (before s) (end z) ∙ before-end s
+
+-- the block that stays in the arrays
+pub walked-block : {full : ℕ → Bool} {s : List ℕ} {bs es : List ℕ} (c : Scan) (o : Tested) {w : Walked} → Scanned full s (c .number) (c .place) (c .stop) (c .seen) → Blocked s (o .block) bs es × (o .place ≤ o .block .stop)
+    → FirstWrong s everyNumber (c .stop) (o .place) → Joined c o w → Blocked s (w .block) bs es × (w .place ≤ w .block .stop)
+walked-block {full} {s} {bs} {es} c o {w} k b f (wrong l a p d) = (subst (λ (x : Block). Blocked s x bs es) (sym d) (b .0), omega (arith, b .1, ap (λ (x : Block). x .stop) d))
+walked-block {full} {s} {bs} {es} c o {w} k b f (others l a p d g h) = (subst (λ (x : Block). Blocked s x bs es) (sym h) (b .0), omega (arith, b .1, ap (λ (x : Block). x .stop) h, low (k .halts)))
+  where
+    low : Halts full s (c .number) (c .place) (c .stop) → c .place ≤ c .stop
+    low (whole z e q i) = omega arith
+    low (early z e q i) = omega arith
+    low (late z e q i) = omega arith

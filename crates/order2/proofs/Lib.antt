@@ -3,3 +3,4 @@ pub mod Tellings
 pub mod Wrongs
 pub mod Scans
 pub mod Joining
+pub mod Passing

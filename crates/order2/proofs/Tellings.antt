@@ -9,10 +9,10 @@ use lib.ListN.{length, take}
 use lib.Dec.{ltb, eqb}
 use borrow.Author.Tests.{eq-eqb, eqb-true}
 use Rattle.endian.specs.Pick.{pick}
-use Rattle.wal.specs.Entry.{Entry, entryOf, begin, commit, rollback}
-use Rattle.wal.specs.Read.{view}
+use Rattle.wal.specs.Entry.{Entry, entryOf, sizesOf, begin, commit, rollback}
+use Rattle.wal.specs.Read.{lengthAt, view}
 use Rattle.wal.specs.Walk.{entries}
-use Rattle.wal.specs.Prefix.{Met, Stands, said, before}
+use Rattle.wal.specs.Prefix.{Met, Stands, said, before, onward}
 use Rattle.wal.proofs.Prefix.{met-from}
 use Rattle.rules.specs.Shape.{both, either}
 use Rattle.rules.specs.Order.{any, is, isBegin, begun, ended}
@@ -21,10 +21,10 @@ use Rattle.index.specs.Places.{number, Has}
 use Rattle.index.specs.Index.{lookup, First}
 use Rattle.index.specs.Collect.{Indexed}
 use Rattle.index.proofs.Collecting.{indexed-first}
-use Rattle.firsts.specs.First.{placesOf, isEnd, isEnding, Tells}
-use Rattle.firsts.proofs.FirstLaws.{zero-test}
+use Rattle.firsts.specs.First.{placesOf, isEnd, isEnding, FirstOf}
+use Rattle.firsts.proofs.FirstLaws.{tells-of, first-zero, zero-test}
 use Rattle.firsts.proofs.Orders.{ended-any}
-use Rattle.firsts.proofs.Log.{Here, told-at, tells-index}
+use Rattle.firsts.proofs.Log.{Here, at-split, split-at, place-is, told-at}
 use Rattle.order2.specs.Blocks.{Blocked, isBefore, Telling}
 use Rattle.order2.specs.declared.Block.{Block}
 use Rattle.order2.proofs.Gathering.{places-from, places-to}
@@ -50,24 +50,27 @@ module _ (s : List ℕ) (f : Entry → Bool) (t : ℕ) (ft : Entry → Bool) (ow
       (λ x h. places-from s f m x h)
       (λ x p e. places-to s f m x (p .1 .met) (p .0) (p .1 .holds))
 
-  tells : Tells ft (entries s) 32 stop (pick (eqb q 0) stop q)
-  tells = tells-index s ft stop q found least
-    where
-      found : (q ≡ 0 → ⊥) → (q < stop) × Here s (λ xs e. ft e ≡ true) q
-      found n =
-          let w = first-place .found n in
-          let h = w .0 .1 in
-          (w .0 .0, record { met = h .met; stands = h .stands; holds = own (said s q) ∙ true-both (h .holds) (eq-eqb (said s q .txn) t (sym (number-said s q) ∙ w .1)) })
+  found : (q ≡ 0 → ⊥) → (q < stop) × Here s (λ xs e. ft e ≡ true) q
+  found n =
+      let w = first-place .found n in
+      let h = w .0 .1 in
+      (w .0 .0, record { met = h .met; stands = h .stands; holds = own (said s q) ∙ true-both (h .holds) (eq-eqb (said s q .txn) t (sym (number-said s q) ∙ w .1)) })
 
-      least : (p : ℕ) → Met s p → Stands s p → p < stop → ft (said s p) ≡ true → (q ≡ 0 → ⊥) × (q ≤ p)
-      least p n h l k =
-          let b = both-true (f (said s p)) (eqb (said s p .txn) t) (sym (own (said s p)) ∙ k) in
-          let z : number s p ≡ t = number-said s p ∙ eqb-true (said s p .txn) t (b .1) in
-          let x : P p = (l, record { met = n; stands = h; holds = b .0 }) in
-          ((λ e. first-place .none e p x z), first-place .least p x z)
+  least : (p : ℕ) → Met s p → Stands s p → p < stop → ft (said s p) ≡ true → (q ≡ 0 → ⊥) × (q ≤ p)
+  least p n h l k =
+      let b = both-true (f (said s p)) (eqb (said s p .txn) t) (sym (own (said s p)) ∙ k) in
+      let z : number s p ≡ t = number-said s p ∙ eqb-true (said s p .txn) t (b .1) in
+      let x : P p = (l, record { met = n; stands = h; holds = b .0 }) in
+      ((λ e. first-place .none e p x z), first-place .least p x z)
+
+  firstly : FirstOf (λ xs e. ft e ≡ true) (entries s) 32 stop (pick (eqb q 0) stop q)
+  firstly =
+      first-zero
+      (λ n. let h = found n .1 in (found n .0, record { xs = before s q; e = said s q; ys = onward s (q + lengthAt s q); split = split-at s (h .met) (h .stands); place = place-is s (h .met); holds = h .holds }))
+      (λ xs e ys p l k. let a = at-split s xs e ys p in least (32 + sizesOf xs) (a .met) (a .stands) l (ap ft (a .entry) ∙ k))
 
   told-before : {at : ℕ} → Met s at → at ≤ stop → any ft (before s at) ≡ isBefore q at
-  told-before {at} n l = told-at s tells n l ∙ zero-test q stop at l
+  told-before {at} n l = told-at s (tells-of ft firstly) n l ∙ zero-test q stop at l
 
 own-end : (t : ℕ) (e : Entry) → isEnding t e ≡ both (isEnd e) (eqb (e .txn) t)
 own-end t e = go (eqb (e .kind) commit) (eqb (e .kind) rollback) (eqb (e .txn) t)
@@ -86,6 +89,14 @@ module _ {s : List ℕ} {b : Block} {bs es : List ℕ} (k : Blocked s b bs es) (
 
   ended-told : ended (before s at) t ≡ isBefore (lookup (number s) t (take (b .ends) es)) at
   ended-told = ended-any (before s at) t ∙ told-before s isEnd t (isEnding t) (own-end t) (k .met) (k .ends) low high m l
+
+-- what is found is the first Begin of its transaction, and the first ending
+module _ {s : List ℕ} {b : Block} {bs es : List ℕ} (k : Blocked s b bs es) (t : ℕ) (low : b .lo .0 ≤ t) (high : t ≤ b .hi .0) where
+  pub begin-first : FirstOf (λ xs e. is begin t e ≡ true) (entries s) 32 (b .stop) (pick (eqb (lookup (number s) t (take (b .begins) bs)) 0) (b .stop) (lookup (number s) t (take (b .begins) bs)))
+  begin-first = firstly s isBegin t (is begin t) (λ e. refl) (k .met) (k .begins) low high
+
+  pub ending-first : FirstOf (λ xs e. isEnding t e ≡ true) (entries s) 32 (b .stop) (pick (eqb (lookup (number s) t (take (b .ends) es)) 0) (b .stop) (lookup (number s) t (take (b .ends) es)))
+  ending-first = firstly s isEnd t (isEnding t) (own-end t) (k .met) (k .ends) low high
 
 pub telling : {s : List ℕ} {b : Block} {bs es : List ℕ} (stop : ℕ) → Blocked s b bs es → stop ≤ b .stop → Telling s (b .lo .0) (b .hi .0) stop (take (b .begins) bs) (take (b .ends) es)
 telling stop k h =

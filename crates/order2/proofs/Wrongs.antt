@@ -26,7 +26,7 @@ use Rattle.order2.specs.Blocks.{topNumber, inBlock, rightIn, RightBefore
 
 -- ---- an entry by itself
 
-module _ {lo hi : ℕ} (xs : List Entry) (e : Entry) where
+module _ (lo hi : ℕ) (xs : List Entry) (e : Entry) where
   pub right-low : e .txn < lo → true ≡ rightIn lo hi xs e
   unfolding rightIn inBlock
   right-low h = rw (lt-leb lo (e .txn) h)
@@ -57,6 +57,15 @@ module _ {lo hi : ℕ} (xs : List Entry) (e : Entry) where
       unfolding inOrder
       right-turn n q = q ∙ sym (right-in ∙ rw (ne-eqb (e .kind) checkpoint k, ne-eqb (e .txn) 0 n))
 
+-- what is not right has a number of the block and is out of order
+is-wrong : (lo hi : ℕ) (xs : List Entry) (e : Entry) → rightIn lo hi xs e ≡ false → Fails (inBlock lo hi) inOrder xs e
+unfolding rightIn
+is-wrong lo hi xs e z = go (inBlock lo hi (e .txn)) refl z
+  where
+    go : (b : Bool) → inBlock lo hi (e .txn) ≡ b → pick b (inOrder xs e) true ≡ false → Fails (inBlock lo hi) inOrder xs e
+    go true q k = (q, k)
+    go false q k = false-true (sym k)
+
 -- ---- an entry more
 
 module _ {s : List ℕ} {lo hi : ℕ} where
@@ -79,19 +88,25 @@ module _ {s : List ℕ} {lo hi : ℕ} where
       let z : inOrder (before s p) (said s p) ≡ true = rw (f .0) at (w .right p m h l) in
       false-true (sym (f .1) ∙ z)
 
-  is-wrong : (p : ℕ) → rightIn lo hi (before s p) (said s p) ≡ false → Fails (inBlock lo hi) inOrder (before s p) (said s p)
-  unfolding rightIn
-  is-wrong p z = go (inBlock lo hi (said s p .txn)) refl z
-    where
-      go : (b : Bool) → inBlock lo hi (said s p .txn) ≡ b → pick b (inOrder (before s p) (said s p)) true ≡ false → Fails (inBlock lo hi) inOrder (before s p) (said s p)
-      go true q k = (q, k)
-      go false q k = false-true (sym k)
-
   pub wrong-none : {at : ℕ} (stop : ℕ) → RightBefore s lo hi at → Met s stop → stop ≤ at → FirstWrong s (inBlock lo hi) stop stop
   wrong-none stop w m h = record { met = m; is = first-log s (omega arith) (λ p n k l. none-wrong w p n k (omega arith)) (λ l. absurd (omega arith)) }
 
   pub wrong-here : {at : ℕ} (stop : ℕ) → RightBefore s lo hi at → Stands s at → at ≤ stop → rightIn lo hi (before s at) (said s at) ≡ false → FirstWrong s (inBlock lo hi) stop at
-  wrong-here {at} stop w h k z = record { met = w .met; is = first-log s k (none-wrong w) (λ l. record { met = w .met; stands = h; holds = is-wrong at z }) }
+  wrong-here {at} stop w h k z = record { met = w .met; is = first-log s k (none-wrong w) (λ l. record { met = w .met; stands = h; holds = is-wrong lo hi (before s at) (said s at) z }) }
+
+-- ---- an entry of a transaction, by whether that has begun and ended
+
+module _ (xs : List Entry) (t kind : ℕ) {b : Bool} (e : b ≡ begun xs t) where
+  pub turn-begin : kind ≡ begin → not b ≡ pick (eqb kind begin) (not (begun xs t)) (isOpen xs t)
+  turn-begin k = ap not e ∙ rw (eq-eqb kind begin k)
+
+  pub turn-none : (kind ≡ begin → ⊥) → b ≡ false → false ≡ pick (eqb kind begin) (not (begun xs t)) (isOpen xs t)
+  unfolding isOpen
+  turn-none k z = rw (ne-eqb kind begin k, sym e ∙ z)
+
+  pub turn-open : {d : Bool} → (kind ≡ begin → ⊥) → b ≡ true → d ≡ ended xs t → not d ≡ pick (eqb kind begin) (not (begun xs t)) (isOpen xs t)
+  unfolding isOpen
+  turn-open k z h = ap not h ∙ rw (ne-eqb kind begin k, sym e ∙ z)
 
 -- ---- a block more
 
@@ -117,7 +132,7 @@ module _ (lo hi t : ℕ) where
       go (no a) true = rw (le-ltb t lo (omega arith), le-leb lo t (omega arith))
       go (no a) false = rw (le-ltb t lo (omega arith), le-leb lo t (omega arith))
 
-module _ {s : List ℕ} {lo hi stop best r : ℕ} (f : FirstWrong s (below lo) stop best) (g : FirstWrong s (inBlock lo hi) best r) where
+module _ {s : List ℕ} (lo hi : ℕ) {stop best r : ℕ} (f : FirstWrong s (below lo) stop best) (g : FirstWrong s (inBlock lo hi) best r) where
   pub wrong-next : lo ≤ hi → (hi ≡ topNumber → ⊥) → FirstWrong s (below (hi + 1)) stop r
   wrong-next h n = record { met = g .met; is = block-join (below lo) (inBlock lo hi) (below (hi + 1)) (λ t. block-next lo hi t h n) (f .is) (g .is) }
 

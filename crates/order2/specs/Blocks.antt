@@ -32,20 +32,20 @@ abbrev pub endsBefore : List ℕ → ℕ → List ℕ
 endsBefore s at = placesOf isEnd (before s at) first
 
 -- of these, two arrays hold the first of each number from lo on, up to where each range ends
-pub record Gathered (s : List ℕ) (lo at : ℕ) (h : Holding) (begins ends : List ℕ) : Type 0 where
-  pub beginsFit : h .begins .len ≤ length begins
-  pub endsFit : h .ends .len ≤ length ends
-  pub begins : Lowered s lo topNumber (beginsBefore s at) (h .begins .hi .0) (take (h .begins .len) begins)
-  pub ends : Lowered s lo topNumber (endsBefore s at) (h .ends .hi .0) (take (h .ends .len) ends)
+pub record Gathered (s : List ℕ) (lo at : ℕ) (h : Holding) (bs es : List ℕ) : Type 0 where
+  pub beginsFit : h .begins .len ≤ length bs
+  pub endsFit : h .ends .len ≤ length es
+  pub begins : Lowered s lo topNumber (beginsBefore s at) (h .begins .hi .0) (take (h .begins .len) bs)
+  pub ends : Lowered s lo topNumber (endsBefore s at) (h .ends .hi .0) (take (h .ends .len) es)
 
 -- the two arrays hold a block
-pub record Blocked (s : List ℕ) (b : Block) (begins ends : List ℕ) : Type 0 where
+pub record Blocked (s : List ℕ) (b : Block) (bs es : List ℕ) : Type 0 where
   pub met : Met s (b .stop)
   pub range : b .lo .0 ≤ b .hi .0
-  pub beginsFit : b .begins ≤ length begins
-  pub endsFit : b .ends ≤ length ends
-  pub begins : Indexed s (b .lo .0) (b .hi .0) (beginsBefore s (b .stop)) (take (b .begins) begins)
-  pub ends : Indexed s (b .lo .0) (b .hi .0) (endsBefore s (b .stop)) (take (b .ends) ends)
+  pub beginsFit : b .begins ≤ length bs
+  pub endsFit : b .ends ≤ length es
+  pub begins : Indexed s (b .lo .0) (b .hi .0) (beginsBefore s (b .stop)) (take (b .begins) bs)
+  pub ends : Indexed s (b .lo .0) (b .hi .0) (endsBefore s (b .stop)) (take (b .ends) es)
 
 -- the numbers of a block: those from lo to hi; a range that ends with the highest number has no end
 unfoldable pub inBlock : ℕ → ℕ → ℕ → Bool

@@ -3,7 +3,7 @@ use endian::Lsn;
 use endian::TxnNumber;
 use index::inner::collect::Held;
 
-//pub mod inner;
+pub mod inner;
 
 // The types of entries that begin and end a transaction.
 pub const BEGIN: u8 = 1;
