@@ -18,6 +18,7 @@ use Rattle.index.specs.Collect.{Lowered, Indexed}
 use Rattle.firsts.specs.First.{placesOf, isEnd}
 use Rattle.change.specs.Places.{ChangeAt}
 use Rattle.change.specs.Bits.{bitOf}
+use Rattle.order2.specs.Blocks.{topNumber}
 use Rattle.lists.specs.declared.Tally.{Tally}
 
 -- the counts of the answer
@@ -37,14 +38,10 @@ tallyOf es =
 abbrev pub Endings : List ℕ → ℕ → ℕ → ℕ → List ℕ → Type 0
 Endings s stop lo hi r = Indexed s lo hi (placesOf isEnd (before s stop) first) r
 
--- the highest transaction number
-abbrev pub top : ℕ
-top = 18446744073709551615
-
 -- on the way, before `at`: the first `len` places of the array, for the numbers from lo up to hi
 pub record Ending (s : List ℕ) (lo at len hi : ℕ) (ends : List ℕ) : Type 0 where
   pub fits : len ≤ length ends
-  pub is : Lowered s lo top (placesOf isEnd (before s at) first) hi (take len ends)
+  pub is : Lowered s lo topNumber (placesOf isEnd (before s at) first) hi (take len ends)
 
 -- ---- each entry is of one sort, and is counted by it
 

@@ -21,17 +21,8 @@ pub struct Range {
     pub end: usize,
 }
 
-// The types of entries that begin, commit and roll back a transaction, and where the type stands behind the start of an entry.
-pub const BEGIN: u8 = 1;
-
-pub const COMMIT: u8 = 2;
-
-pub const ROLLBACK: u8 = 3;
-
+// Where the type stands behind the start of an entry.
 pub const KIND_AT: usize = 20;
 
 // Entries are counted by so many sorts.
 pub const SORTS: usize = 8;
-
-// The highest transaction number.
-pub const TOP: u64 = 18446744073709551615;

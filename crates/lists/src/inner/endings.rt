@@ -2,33 +2,19 @@
 ghost use mathlib.Core.Path.{_≡_};
 ghost use Prim.Native.Nat.{_+_, _≤_, _<_};
 ghost use lib.ListN.{length, take};
-ghost use lib.Dec.{eqb};
-ghost use Rattle.wal.specs.Entry.{commit, rollback};
 ghost use Rattle.wal.specs.Read.{lengthAt};
 ghost use Rattle.wal.specs.Prefix.{Met, Stands, said};
-ghost use Rattle.rules.specs.Shape.{either};
-ghost use Rattle.lists.specs.Survey.{reach};
+ghost use Rattle.order2.specs.First.{reach};
 ghost use Rattle.lists.specs.Outcome.{Endings, Ending};
-use crate::COMMIT;
-use crate::ROLLBACK;
-use crate::TOP;
 use endian::TxnNumber;
 use index::inner::build;
 use index::inner::collect::Held;
 use index::inner::collect::offer;
+use order2::TOP;
+use order2::inner::block::is_end;
 use wal::FIRST;
 use wal::Reading;
 use wal::inner::known_at;
-
-// Whether an entry of this type ends a transaction.
-fn is_end(kind: u8) -> bool
-    ensures { λ r. ⌜ r ≡ either (eqb kind commit) (eqb kind rollback) ⌝ }
-{
-    if kind == COMMIT {
-        return true;
-    }
-    kind == ROLLBACK
-}
 
 // Takes the entry at `at` in, where it is an ending.
 fn take(log: &[u8], at: usize, kind: u8, lo: TxnNumber, held: Held, ends: &mut [u32]) -> Held
