@@ -95,7 +95,7 @@ module _ (s r : List ℕ) (end lo hi w i limit : ℕ) (old : List ℕ) where
         pub scan-clash : {b : Bool} → b ≡ clashesAt s r end lo hi w cells p → b ≡ true → p ≡ walked (newestBy s w cells) (marksAt s (drop j list))
         scan-clash e t = sym (first (newestBy s w cells) ∙ walk-clash slotsOn (endingBy s r end) (lookedAt w (length old) lo hi) i limit (newestBy s w cells) m (marksAt s (drop (suc j) list)) early (clash-is ∙ sym e ∙ t))
 
-        pub scan-on : {b : Bool} {new : List ℕ} → b ≡ clashesAt s r end lo hi w cells p → b ≡ false → Passed s p w cells new
+        pub scan-on : {b : Bool} {new : List ℕ} → b ≡ clashesAt s r end lo hi w cells p → b ≡ false → Passed s (slotsOf (said s p)) p w cells new
             → walked (newestBy s w cells) (marksAt s (drop j list)) ≡ walked (newestBy s w new) (marksAt s (drop (j + 1) list))
         scan-on {b} {new} e f n =
             first (newestBy s w cells)
@@ -111,7 +111,7 @@ module _ (s r : List ℕ) (end lo hi w i limit : ℕ) (old : List ℕ) where
 
 -- ---- the list
 
-on-some : (i : ℕ) (e : Entry) → someSlot (λ k. true) (slotsOn i e) ≡ isOn i e
+pub on-some : (i : ℕ) (e : Entry) → someSlot (λ k. true) (slotsOn i e) ≡ isOn i e
 unfolding slotsOn someSlot
 on-some i e = go (isOn i e)
   where
@@ -125,7 +125,7 @@ marks-snoc s [] true p = refl
 marks-snoc s [] false p = refl
 marks-snoc s (q ∷ ps) b p = ap (λ (l : List Mark). record { place = q; entry = said s q } ∷ l) (marks-snoc s ps b p)
 
-on-here : {s : List ℕ} {i p : ℕ} → ShapedAt s p → isOn i (said s p) ≡ true → ChangeOn s i p
+pub on-here : {s : List ℕ} {i p : ℕ} → ShapedAt s p → isOn i (said s p) ≡ true → ChangeOn s i p
 unfolding isOn
 on-here {s} {i} {p} k o = let b = both-true (isChange (said s p)) (eqb (pageOf (said s p)) i) o in record { at = change-here k (b .0); page = eqb-true (pageOf (said s p)) i (b .1) }
 
@@ -166,7 +166,7 @@ module _ (s : List ℕ) (i : ℕ) where
 -- ---- the first clash
 
 module _ {s r : List ℕ} {end lo hi : ℕ} (m : Met s end) (ix : Endings s end lo hi r) (w i n limit : ℕ) (below : limit ≤ end) where
-  tell : (k t : ℕ) → lookedAt w n lo hi k t ≡ true → Tells (isEnding t) (entries s) 32 limit (endingBy s r end t)
+  pub tell : (k t : ℕ) → lookedAt w n lo hi k t ≡ true → Tells (isEnding t) (entries s) 32 limit (endingBy s r end t)
   unfolding inRange
   tell k t h =
       let b = both-true (inWindow w n k) (both (leb lo t) (leb t hi)) h .1 in

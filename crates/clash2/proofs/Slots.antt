@@ -21,7 +21,7 @@ use Rattle.index.specs.Places.{number}
 use Rattle.index.specs.Index.{lookup}
 use Rattle.firsts.specs.Clash.{someSlot, has, openAt}
 use Rattle.change.specs.Places.{ChangeAt, slotsOf}
-use Rattle.clash2.specs.Newest.{owner, inWindow, newestBy, CellsIn, inRange, lookedAt, endingBy}
+use Rattle.clash2.specs.Newest.{owner, inWindow, newestBy, CellsIn, inRange, lookedAt, endingBy, Passed}
 
 -- ---- the transaction u, and the change e at p
 
@@ -157,15 +157,14 @@ low-of w n k h = leb-true w k (both-true (leb w k) (ltb k (w + n)) h .0)
 
 -- ---- the cells with a change more
 
--- the first j slots of the change at p are noted
+-- the slots ks of the change at p are noted
 pub record Noted (s : List ℕ) (p w : ℕ) (old new : List ℕ) (ks : List ℕ) : Type 0 where
-  pub cells : CellsIn s new
   pub long : length new ≡ length old
-  pub newest : (k : ℕ) → newestBy s w new k ≡ pick (both (inWindow w (length old) k) (has k ks)) (said s p .txn) (newestBy s w old k)
+  pub is : Passed s ks p w old new
 
 pub noted-none : {s : List ℕ} {p w : ℕ} {old : List ℕ} → CellsIn s old → Noted s p w old old []
 unfolding someSlot
-noted-none {s} {p} {w} {old} c = record { cells = c; long = refl; newest = λ k. sym (rw (both-none (inWindow w (length old) k))) }
+noted-none {s} {p} {w} {old} c = record { long = refl; is = record { cells = c; newest = λ k. sym (rw (both-none (inWindow w (length old) k))) } }
 
 module _ {s : List ℕ} {p w : ℕ} {old new : List ℕ} (ks : List ℕ) (j : ℕ) (c : ChangeAt s p) (h : j < length ks) (n : Noted s p w old new (take j ks)) where
   abbrev K : ℕ
@@ -173,7 +172,7 @@ module _ {s : List ℕ} {p w : ℕ} {old new : List ℕ} (ks : List ℕ) (j : �
 
   -- the slot has no cell
   pub noted-out : inWindow w (length new) K ≡ false → Noted s p w old new (take (j + 1) ks)
-  noted-out out = record { cells = n .cells; long = n .long; newest = λ k. n .newest k ∙ ap (λ (b : Bool). pick b (said s p .txn) (newestBy s w old k)) (same k (ℕ-discrete K k)) }
+  noted-out out = record { long = n .long; is = record { cells = n .is .cells; newest = λ k. n .is .newest k ∙ ap (λ (b : Bool). pick b (said s p .txn) (newestBy s w old k)) (same k (ℕ-discrete K k)) } }
     where
       same : (k : ℕ) → Dec (K ≡ k) → both (inWindow w (length old) k) (has k (take j ks)) ≡ both (inWindow w (length old) k) (has k (take (j + 1) ks))
       same k (yes q) =
@@ -190,14 +189,16 @@ module _ {s : List ℕ} {p w : ℕ} {old new : List ℕ} (ks : List ℕ) (j : �
   unfolding newestBy owner
   noted-in l m =
       record {
-        cells = record { room = λ i z. room i z (ℕ-discrete i (K - w)) };
         long = length-set new (K - w) p ∙ n .long;
-        newest = λ k. ap (λ (x : ℕ). pick (inWindow w x k) (owner s (getD (set new (K - w) p) (k - w) 0)) 0) (length-set new (K - w) p) ∙ at k (inWindow w (length new) k) refl (ℕ-discrete K k);
+        is = record {
+          cells = record { room = λ i z. room i z (ℕ-discrete i (K - w)) };
+          newest = λ k. ap (λ (x : ℕ). pick (inWindow w x k) (owner s (getD (set new (K - w) p) (k - w) 0)) 0) (length-set new (K - w) p) ∙ at k (inWindow w (length new) k) refl (ℕ-discrete K k);
+        };
       }
     where
       room : (i : ℕ) → (getD (set new (K - w) p) i 0 ≡ 0 → ⊥) → Dec (i ≡ K - w) → getD (set new (K - w) p) i 0 + 20 ≤ length s
       room i z (yes q) = let x = stands-at (c .stands) in omega (arith, ap (λ (y : ℕ). getD (set new (K - w) p) y 0) q, getD-set-same new (K - w) p 0 m, x .room, x .low)
-      room i z (no q) = let e = getD-set-other new (K - w) i p 0 q in omega (arith, e, n .cells .room i (λ y. z (e ∙ y)))
+      room i z (no q) = let e = getD-set-other new (K - w) i p 0 q in omega (arith, e, n .is .cells .room i (λ y. z (e ∙ y)))
 
       real : p ≡ 0 → ⊥
       real z = let x = stands-at (c .stands) in omega (arith, x .from)
@@ -228,7 +229,7 @@ module _ {s : List ℕ} {p w : ℕ} {old new : List ℕ} (ks : List ℕ) (j : �
       at k true q (no e) =
           let l2 : w ≤ k = low-in q in
           let g : getD (set new (K - w) p) (k - w) 0 ≡ getD new (k - w) 0 = getD-set-other new (K - w) (k - w) p 0 (λ z. let y : k - w ≡ K - w = z in e (omega arith)) in
-          ap (λ (x : Bool). pick x (owner s (getD (set new (K - w) p) (k - w) 0)) 0) q ∙ ap (owner s) g ∙ sym (newest-in s w new k q) ∙ n .newest k ∙ ap (λ (x : Bool). pick (both (inWindow w (length old) k) x) (said s p .txn) (newestBy s w old k)) (sym (same-has k e))
+          ap (λ (x : Bool). pick x (owner s (getD (set new (K - w) p) (k - w) 0)) 0) q ∙ ap (owner s) g ∙ sym (newest-in s w new k q) ∙ n .is .newest k ∙ ap (λ (x : Bool). pick (both (inWindow w (length old) k) x) (said s p .txn) (newestBy s w old k)) (sym (same-has k e))
       at k false q (no e) =
           let o : inWindow w (length old) k ≡ false = ap (λ (x : ℕ). inWindow w x k) (sym (n .long)) ∙ q in
           ap (λ (x : Bool). pick x (owner s (getD (set new (K - w) p) (k - w) 0)) 0) q

@@ -57,10 +57,10 @@ abbrev pub clashesAt : List ℕ → List ℕ → ℕ → ℕ → ℕ → ℕ →
 clashesAt s r stop lo hi w cells p =
     someSlot (λ k. both (lookedAt w (length cells) lo hi k (newestBy s w cells k)) (openAt (endingBy s r stop) p (said s p) (newestBy s w cells k))) (slotsOf (said s p))
 
--- it is the newest on its slots in the cells `new`, which were `old`
-pub record Passed (s : List ℕ) (p w : ℕ) (old new : List ℕ) : Type 0 where
+-- in the cells `new`, which were `old`, the change at p is the newest on the slots ks
+pub record Passed (s ks : List ℕ) (p w : ℕ) (old new : List ℕ) : Type 0 where
   pub cells : CellsIn s new
-  pub newest : (k : ℕ) → newestBy s w new k ≡ pick (both (inWindow w (length old) k) (has k (slotsOf (said s p)))) (said s p .txn) (newestBy s w old k)
+  pub newest : (k : ℕ) → newestBy s w new k ≡ pick (both (inWindow w (length old) k) (has k ks)) (said s p .txn) (newestBy s w old k)
 
 -- ---- which slots a list of changes has
 

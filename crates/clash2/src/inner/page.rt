@@ -26,7 +26,7 @@ use lists::Range;
 use lists::inner::survey::blank;
 
 // Whether the change at place clashes. Where it does not, it is now the newest one on its slots.
-fn pass(
+pub fn pass(
     log: &[u8],
     place: u32,
     w: usize,
@@ -41,7 +41,7 @@ fn pass(
     requires { ⌜ place ≤ r .end ⌝ }
     requires { ⌜ CellsIn (now log) (now cells) ⌝ }
     ensures { λ b. ⌜ b ≡ clashesAt (now (log .entry)) (now (ends .entry)) (r .end) (r .lo .0) (r .hi .0) w (now (cells .entry)) place ⌝ }
-    ensures { λ b. ⌜ (b ≡ false → Passed (now (log .entry)) place w (now (cells .entry)) (now (cells .exit))) ⌝ }
+    ensures { λ b. ⌜ (b ≡ false → Passed (now (log .entry)) (slotsOf (said (now (log .entry)) place)) place w (now (cells .entry)) (now (cells .exit))) ⌝ }
 {
     let t = TxnNumber(number_of(log, place));
     let p = place as usize;
@@ -110,7 +110,7 @@ fn window(
     scan(log, page, list, limit, w, cells, r, ends, guesses)
 }
 
-fn lesser(x: usize, y: usize) -> usize
+pub fn lesser(x: usize, y: usize) -> usize
     ensures { λ r. ⌜ r ≡ min x y ⌝ }
 {
     if x < y { x } else { y }

@@ -7,7 +7,7 @@ ghost use Rattle.endian.specs.Pick.{pick};
 ghost use Rattle.wal.specs.Prefix.{Met, said};
 ghost use Rattle.rules.specs.Shape.{both};
 ghost use Rattle.firsts.specs.Clash.{openAt};
-ghost use Rattle.change.specs.Places.{ChangeAt};
+ghost use Rattle.change.specs.Places.{ChangeAt, slotsOf};
 ghost use Rattle.lists.specs.Outcome.{Endings};
 ghost use Rattle.clash2.specs.Newest.{inWindow, newestBy, CellsIn, inRange, lookedAt, endingBy, clashesAt, Passed};
 use change::inner::slot_at;
@@ -136,7 +136,7 @@ pub fn note(log: &[u8], place: usize, w: usize, cells: &mut [u32])
     requires { ⌜ ChangeAt (now log) place ⌝ }
     requires { ⌜ place < 4294967296 ⌝ }
     requires { ⌜ CellsIn (now log) (now cells) ⌝ }
-    ensures { λ _. ⌜ Passed (now (log .entry)) place w (now (cells .entry)) (now (cells .exit)) ⌝ }
+    ensures { λ _. ⌜ Passed (now (log .entry)) (slotsOf (said (now (log .entry)) place)) place w (now (cells .entry)) (now (cells .exit)) ⌝ }
 {
     let n = slot_count(log, place);
     let mut j: usize = 0;
