@@ -1,0 +1,1 @@
+// The transaction table, for callers that know the log to be accepted.
