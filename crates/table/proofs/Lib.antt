@@ -2,3 +2,4 @@ pub mod Storing
 pub mod Orders
 pub mod Parting
 pub mod Sorting
+pub mod Finding
