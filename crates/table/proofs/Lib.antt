@@ -3,3 +3,4 @@ pub mod Orders
 pub mod Parting
 pub mod Sorting
 pub mod Finding
+pub mod Telling
