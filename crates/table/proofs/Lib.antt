@@ -4,3 +4,4 @@ pub mod Parting
 pub mod Sorting
 pub mod Finding
 pub mod Telling
+pub mod Walking
