@@ -5,3 +5,4 @@ pub mod Sorting
 pub mod Finding
 pub mod Telling
 pub mod Walking
+pub mod Filling

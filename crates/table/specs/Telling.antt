@@ -7,7 +7,7 @@ use lib.Dec.{eqb}
 use Rattle.endian.specs.Pick.{pick, consIf}
 use Rattle.wal.specs.Entry.{Entry, begin, commit, rollback}
 use Rattle.wal.specs.Read.{first}
-use Rattle.wal.specs.Walk.{entries}
+use Rattle.wal.specs.Walk.{entries, endOf}
 use Rattle.wal.specs.Prefix.{Met, before, onward}
 use Rattle.rules.specs.Shape.{both, isChange, isChanging}
 use Rattle.rules.specs.Order.{count, isBegin, neverFull, orderFrom}
@@ -39,7 +39,7 @@ pub record Begun (s : List ℕ) (from : ℕ) (a b : List ℕ) (n next : ℕ) : T
   pub rest : begunRows (onward s next) ≡ drop n (begunRows (onward s from))
   pub met : Met s next
   pub all : length (begunRows (onward s from)) ≤ length a / stride → n ≡ length (begunRows (onward s from))
-  pub on : 0 < length (onward s from) → 0 < length a / stride → from < next
+  pub on : from < endOf s → 0 < length a / stride → from < next
 
 -- ---- what other entries tell
 
