@@ -21,7 +21,7 @@ use Rattle.wal.proofs.Known.{Ahead}
 use Rattle.rules.specs.Order.{isBegin}
 use Rattle.table.specs.Flat.{stride}
 use Rattle.table.specs.Rows.{blank, rows}
-use Rattle.table.specs.Telling.{fresh, begunRows, Begun}
+use Rattle.table.specs.Telling.{fresh, begunRows, Span}
 use Rattle.table.specs.declared.Row.{Row}
 use Rattle.table.proofs.Storing.{rows-length}
 use Rattle.table.proofs.Walking.{arrived}
@@ -59,15 +59,14 @@ put-next l k n r rs e h =
 
 module _ {s : List ℕ} {from : ℕ} {a : List ℕ} {r : List Row} {n at : ℕ} (f : Filled s from a r n at) where
   -- the walk is at its end
-  pub filled-end : {b : List ℕ} {end : ℕ} → r ≡ rows b → endOf s ≡ end → end ≤ at → Begun s from a b n at
+  pub filled-end : {end : ℕ} → endOf s ≡ end → end ≤ at → Span s from (length a / stride) n at
   unfolding begunRows
-  filled-end {b} e q h =
+  filled-end q h =
       let p = arrived (f .met) q h in
       let z : [] ≡ drop n (begunRows (onward s from)) = rw (p, onward-end s) at (f .rest) in
       record {
         room = f .room;
         many = f .many;
-        front = sym e ∙ f .front;
         rest = f .rest;
         met = f .met;
         all = λ l. omega (arith, ap length z, length-drop n (begunRows (onward s from)), f .many);
@@ -94,16 +93,15 @@ module _ {s : List ℕ} {from : ℕ} {a : List ℕ} {r : List Row} {n at : ℕ} 
           sym e ∙ f .rest
 
       -- there is no more room
-      pub filled-full : {c : List ℕ} → r ≡ rows c → n ≡ length a / stride → Begun s from a c n at
-      filled-full {c} e full =
+      pub filled-full : n ≡ length a / stride → Span s from (length a / stride) n at
+      filled-full full =
           let w = next-row (begunRows (onward s from)) n (fresh (said s at)) (begunRows (onward s (at + v .length))) first-row in
           record {
             room = f .room;
             many = f .many;
-            front = sym e ∙ f .front;
-            rest = f .rest;
+                rest = f .rest;
             met = f .met;
-            all = λ l. absurd (omega (arith, w .0));
+            all = λ l. absurd (omega arith);
             on = λ l m. later (ltb from at) refl m;
           }
         where

@@ -132,12 +132,19 @@ unended {full} {es} {f} h n k =
     let g : ended es (f .txn) ≡ false = not-true (ended es (f .txn)) (both-true (begun es (f .txn)) (not (ended es (f .txn))) o .1) in
     either-false (any (is commit (f .txn)) es) (any (is rollback (f .txn)) es) g .0
 
-pub told-rising : (es : List Entry) {l : List Row} → Rising 0 l → Rising 0 (map (tell es) l)
+pub kept-number : (es : List Entry) (r : Row) → key 0 (tell es r) ≡ key 0 r
 unfolding tell key
-told-rising es {l} r = record {
+kept-number es r = refl
+
+pub kept-lsn : (es : List Entry) (r : Row) → key 1 (tell es r) ≡ key 1 r
+unfolding tell key
+kept-lsn es r = refl
+
+pub told-rising : (es : List Entry) (c : ℕ) → ((r : Row) → key c (tell es r) ≡ key c r) → {l : List Row} → Rising c l → Rising c (map (tell es) l)
+told-rising es c e {l} r = record {
   at = λ i j p q.
   let b : j < length l = omega (arith, length-map l (tell es)) in
-  rw (getD-map (tell es) l i (omega arith), getD-map (tell es) l j b) (r .at i j p b);
+  rw (getD-map (tell es) l i (omega arith), getD-map (tell es) l j b, e (getD l i blank), e (getD l j blank)) (r .at i j p b);
 }
 
 pub told-changes : (es : List Entry) (l : List Row) (i : ℕ) → i < length (map (tell es) l) → getD (map (tell es) l) i blank .changes ≤ length es

@@ -18,7 +18,7 @@ use Rattle.firsts.proofs.Log.{place-is}
 use Rattle.table.specs.Rows.{blank, Rising}
 use Rattle.table.specs.Telling.{Orderly, tell, Entered, Untold}
 use Rattle.table.specs.declared.Row.{Row}
-use Rattle.table.proofs.Telling.{told-rising, told-changes, entered}
+use Rattle.table.proofs.Telling.{kept-number, told-rising, told-changes, entered}
 
 -- ---- at a place of the walk
 
@@ -51,7 +51,7 @@ arrived {s} m e h = omega (arith, met-le s m)
 
 module _ {s : List ℕ} {from : ℕ} {l : List Row} (u : Untold s from l) {p : ℕ} (m : Met s p) (r : List Row) (q : r ≡ map (tell (before s p)) l) where
   pub walk-rising : Rising 0 r
-  walk-rising = rw q (told-rising (before s p) (u .rising))
+  walk-rising = rw q (told-rising (before s p) 0 (kept-number (before s p)) (u .rising))
 
   pub walk-small : (n : ℕ) → p ≤ n → (i : ℕ) → i < length r → getD r i blank .changes ≤ n
   walk-small n b = subst (λ (x : List Row). (i : ℕ) → i < length x → getD x i blank .changes ≤ n) (sym q) (λ i h. omega (arith, told-changes (before s p) l i h, entries-few m))

@@ -16,6 +16,10 @@ use Rattle.table.specs.Flat.{stride}
 use Rattle.table.specs.Rows.{blank, rows, Rising}
 use Rattle.table.specs.declared.Row.{Row}
 
+-- a shorter log has places that fit 31 bits
+abbrev pub reach : ℕ
+reach = 2147483648
+
 -- the entries of the log keep the order rules
 abbrev pub Orderly : List ℕ → Type 0
 Orderly s = orderFrom neverFull [] (entries s) first .number ≡ 0
@@ -31,15 +35,14 @@ unfoldable pub begunRows : List Entry → List Row
 begunRows [] = []
 begunRows (e ∷ es) = consIf (isBegin e) (fresh e) (begunRows es)
 
--- the rows b are a with a row in front for each Begin from `from` on, until there is none or a has no more room; the rest of the Begins stand from next on
-pub record Begun (s : List ℕ) (from : ℕ) (a b : List ℕ) (n next : ℕ) : Type 0 where
-  pub room : n ≤ length a / stride
+-- n Begins from `from` on are taken, as many as there are or as there is room for; the rest of them stand from next on
+pub record Span (s : List ℕ) (from limit n next : ℕ) : Type 0 where
+  pub room : n ≤ limit
   pub many : n ≤ length (begunRows (onward s from))
-  pub front : rows b ≡ take n (begunRows (onward s from)) ++ drop n (rows a)
   pub rest : begunRows (onward s next) ≡ drop n (begunRows (onward s from))
   pub met : Met s next
-  pub all : length (begunRows (onward s from)) ≤ length a / stride → n ≡ length (begunRows (onward s from))
-  pub on : from < endOf s → 0 < length a / stride → from < next
+  pub all : n < limit → n ≡ length (begunRows (onward s from))
+  pub on : from < endOf s → 0 < limit → from < next
 
 -- ---- what other entries tell
 

@@ -10,7 +10,7 @@ ghost use Rattle.rules.specs.Shape.{isChanging};
 ghost use Rattle.rules.specs.Order.{count, isBegin};
 ghost use Rattle.table.specs.Flat.{stride, flatAfter};
 ghost use Rattle.table.specs.Rows.{blank, rows, Full, Rising, Found};
-ghost use Rattle.table.specs.Telling.{Orderly, begunRows, Begun, tell, toldBy, Entered, Untold};
+ghost use Rattle.table.specs.Telling.{reach, Orderly, begunRows, Span, tell, toldBy, Entered, Untold};
 use crate::Row;
 use crate::STRIDE;
 use crate::rows::key_at;
@@ -166,7 +166,7 @@ fn enter(a: &mut [u64], guesses: &mut [u32], seen: usize, kind: u8, t: TxnNumber
 fn enter_all(log: &[u8], from: usize, end: usize, a: &mut [u64], guesses: &mut [u32])
     requires { ⌜ Orderly (now log) ⌝ }
     requires { ⌜ Met (now log) from ⌝ }
-    requires { ⌜ (endOf (now log) ≡ end) × (length (now log) < 2147483648) ⌝ }
+    requires { ⌜ (endOf (now log) ≡ end) × (length (now log) < reach) ⌝ }
     requires { ⌜ Untold (now log) from (rows (now a)) ⌝ }
     requires { ⌜ Full (now a) × (0 < length (now guesses)) × (length (now a) / stride < 4294967296) ⌝ }
     ensures { λ _. ⌜ rows (now (a .exit)) ≡ map (tell (entries (now (log .entry)))) (rows (now (a .entry))) ⌝ }
@@ -194,7 +194,8 @@ fn begins(log: &[u8], from: usize, end: usize, a: &mut [u64]) -> Taken
     requires { ⌜ Met (now log) from ⌝ }
     requires { ⌜ endOf (now log) ≡ end ⌝ }
     requires { ⌜ Full (now a) ⌝ }
-    ensures { λ r. ⌜ Begun (now (log .entry)) from (now (a .entry)) (now (a .exit)) (r .count) (r .next) ⌝ }
+    ensures { λ r. ⌜ Span (now (log .entry)) from (length (now (a .entry)) / stride) (r .count) (r .next) ⌝ }
+    ensures { λ r. ⌜ rows (now (a .exit)) ≡ take (r .count) (begunRows (onward (now (log .entry)) from)) ++ drop (r .count) (rows (now (a .entry))) ⌝ }
 {
     let room = a.len() / STRIDE;
     let mut n: usize = 0;
@@ -221,4 +222,44 @@ fn begins(log: &[u8], from: usize, end: usize, a: &mut [u64]) -> Taken
         n += 1;
         at = at + e.length;
     }
+}
+
+// Tells the rows of Begins from a place on by all entries.
+fn settle(log: &[u8], from: usize, end: usize, a: &mut [u64], guesses: &mut [u32])
+    requires { ⌜ Orderly (now log) ⌝ }
+    requires { ⌜ Met (now log) from ⌝ }
+    requires { ⌜ (endOf (now log) ≡ end) × (length (now log) < reach) ⌝ }
+    requires { ⌜ rows (now a) ≡ take (length (now a) / stride) (begunRows (onward (now log) from)) ⌝ }
+    requires { ⌜ Full (now a) × (0 < length (now guesses)) × (length (now a) / stride < 4294967296) ⌝ }
+    ensures { λ _. ⌜ rows (now (a .exit)) ≡ map (tell (entries (now (log .entry)))) (rows (now (a .entry))) ⌝ }
+{
+    sort(a, NUMBER);
+    enter_all(log, from, end, a, guesses);
+    sort(a, FIRST_LSN);
+}
+
+// The rows of as many Begins from a place on as there is room for, in log order.
+pub fn block(log: &[u8], from: usize, end: usize, a: &mut [u64], guesses: &mut [u32]) -> Taken
+    requires { ⌜ Orderly (now log) ⌝ }
+    requires { ⌜ Met (now log) from ⌝ }
+    requires { ⌜ (endOf (now log) ≡ end) × (length (now log) < reach) ⌝ }
+    requires { ⌜ Full (now a) × (0 < length (now guesses)) ⌝ }
+    ensures { λ r. ⌜ Span (now (log .entry)) from (length (now (a .entry)) / stride) (r .count) (r .next) ⌝ }
+    ensures { λ r. ⌜ rows (now (a .exit)) ≡ map (tell (entries (now (log .entry)))) (take (r .count) (begunRows (onward (now (log .entry)) from))) ++ drop (r .count) (rows (now (a .entry))) ⌝ }
+{
+    let t = begins(log, from, end, a);
+    let cut = STRIDE * t.count;
+    settle(log, from, end, &mut a[..cut], guesses);
+    t
+}
+
+// Fills the front of a table with the records of an accepted log's transactions.
+pub fn fill_flat(log: &[u8], end: usize, table: &mut [u64], guesses: &mut [u32])
+    requires { ⌜ Orderly (now log) ⌝ }
+    requires { ⌜ (endOf (now log) ≡ end) × (length (now log) < reach) × (count isBegin (entries (now log)) ≤ length (now table) / stride) ⌝ }
+    requires { ⌜ 0 < length (now guesses) ⌝ }
+    ensures { λ _. ⌜ now (table .exit) ≡ flatAfter (entries (now (log .entry))) (now (table .entry)) ⌝ }
+{
+    let cut = STRIDE * (table.len() / STRIDE);
+    block(log, FIRST, end, &mut table[..cut], guesses);
 }

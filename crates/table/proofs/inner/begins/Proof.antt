@@ -30,7 +30,8 @@ known-at-requires c κs = still (c .loop .inv .1 .met) (met-to (c .before .befor
 returns : tie.Need-returns Inv-loop μ-loop
 returns c =
     let start = c .before .before .before .before .before in
-    filled-end (c .before .before .loop .inv .1) refl (start .pre .1 .0) (known-stops _ _ _ _ (c .before .known-at .ensures) (c .match .keys2))
+    let f = c .before .before .loop .inv .1 in
+    (filled-end f (start .pre .1 .0) (known-stops _ _ _ _ (c .before .known-at .ensures) (c .match .keys2)), f .front)
 
 add-at : tie.Need-add-at Inv-loop μ-loop
 add-at c = let k = here (c .before .before) in omega (arith, k .next)
@@ -48,7 +49,7 @@ full : tie.Need-returns-2 Inv-loop μ-loop
 full c =
     let turn = c .before .before in
     let inv = turn .before .before .before .before .before .loop .inv in
-    filled-full (inv .1) (here turn) (c .before .if1 .left) refl (c .if2 .taken)
+    (filled-full (inv .1) (here turn) (c .before .if1 .left) (c .if2 .taken), inv .1 .front)
 
 put-requires : tie.Need-put-requires Inv-loop μ-loop
 put-requires c κs =
