@@ -70,9 +70,11 @@ fn nth_record(log: &[u8], end: usize, scratch: &mut [u64], i: usize) -> Record
     let j = ready(log, end, scratch, i);
     let head = HEAD;
     let r = row_at(&scratch[head..], j);
+    let number = r.number;
+    let first = r.first;
     Record {
-        number: r.number,
-        first: r.first,
+        number: number,
+        first: first,
         outcome: r.outcome as u8,
         changes: r.changes,
     }
