@@ -120,8 +120,13 @@ impl Pages {
     }
 
     pub fn fields(&self) -> Vec<(&'static str, Json)> {
+        self.fields_of("pages_file")
+    }
+
+    /// The same under this name of the file.
+    fn fields_of(&self, file: &'static str) -> Vec<(&'static str, Json)> {
         vec![
-            ("pages_file", Json::text(self.path.display())),
+            (file, Json::text(self.path.display())),
             ("pages", self.count().into()),
             ("magic", Json::text(format_args!("{:#x}", self.magic))),
             ("magic_from", self.magic_from().into()),
@@ -199,6 +204,8 @@ pub struct Read<'a> {
     pub floor: u64,
     /// Whether every bad page is already told.
     pub all_listed: bool,
+    /// Whether the pages are those of --catalog.
+    pub is_catalog: bool,
 }
 
 impl<'a> Read<'a> {
@@ -208,6 +215,7 @@ impl<'a> Read<'a> {
             log: None,
             floor: 0,
             all_listed: false,
+            is_catalog: false,
         }
     }
 
@@ -217,6 +225,15 @@ impl<'a> Read<'a> {
             log: Some(log),
             floor: 0,
             all_listed: false,
+            is_catalog: false,
+        }
+    }
+
+    /// The pages of --catalog, beside a log.
+    pub fn catalog(pages: &'a Pages, log: &'a Log) -> Read<'a> {
+        Read {
+            is_catalog: true,
+            ..Read::both(pages, log, 0)
         }
     }
 
@@ -226,6 +243,7 @@ impl<'a> Read<'a> {
             log: Some(log),
             floor,
             all_listed: false,
+            is_catalog: false,
         }
     }
 }
@@ -244,7 +262,11 @@ pub fn head_fields(parsed: &Parsed, result: &str, verdict: Verdict) -> Vec<(&'st
 
 impl Read<'_> {
     pub fn fields(&self) -> Vec<(&'static str, Json)> {
-        let mut fields = self.pages.map_or(Vec::new(), Pages::fields);
+        let file = match self.is_catalog {
+            true => "catalog_file",
+            false => "pages_file",
+        };
+        let mut fields = self.pages.map_or(Vec::new(), |pages| pages.fields_of(file));
         fields.extend(self.log.map_or(Vec::new(), Log::fields));
         fields
     }

@@ -68,15 +68,17 @@ struct Catalog {
 }
 
 impl Catalog {
-    /// What --catalog names, if it is given.
-    fn read(parsed: &Parsed, output: &mut Output) -> Result<Option<Catalog>, Failure> {
-        let Some(pages) = Pages::chosen(parsed, CATALOG.name)? else {
-            return Ok(None);
-        };
+    /// Of the pages that --catalog names.
+    fn of(
+        parsed: &Parsed,
+        output: &mut Output,
+        pages: Pages,
+        log: &Log,
+    ) -> Result<Catalog, Failure> {
         let verdict = library::verify(pages.magic, &pages.bytes);
-        unless_refused(parsed, output, verdict, Read::pages(&pages))?;
+        unless_refused(parsed, output, verdict, Read::catalog(&pages, log))?;
         let names = TableNames::of(&pages);
-        Ok(Some(Catalog { pages, names }))
+        Ok(Catalog { pages, names })
     }
 }
 
@@ -133,8 +135,12 @@ fn run(parsed: &Parsed, output: &mut Output) -> Result<(), Failure> {
     let backward = parsed.flag("--backward");
     let from = parsed.chosen_number("--from")?;
     let limit = parsed.chosen_number("--limit")?.unwrap_or(u64::MAX);
-    let catalog = Catalog::read(parsed, output)?;
+    let pages = Pages::chosen(parsed, CATALOG.name)?;
     let log = Log::read(parsed, 0)?;
+    let catalog = match pages {
+        Some(pages) => Some(Catalog::of(parsed, output, pages, &log)?),
+        None => None,
+    };
     let opened = library::log_open(&log.bytes, backward);
     unless_refused(parsed, output, opened, Read::log(&log))?;
     if let Some(inside) = from.and_then(|from| around(&log, from)) {
@@ -365,7 +371,8 @@ fn end_json(
 }
 
 fn entry_fields(log: &Log, start: &Start, step: &Step) -> Vec<(&'static str, Json)> {
-    let (page, slot) = match walk::target(&log.bytes, step) {
+    let target = walk::target(&log.bytes, step);
+    let (page, slot) = match target {
         Some((page, slot)) => (page.into(), u64::from(slot).into()),
         None => (Json::Null, Json::Null),
     };
@@ -379,7 +386,7 @@ fn entry_fields(log: &Log, start: &Start, step: &Step) -> Vec<(&'static str, Jso
         ("table", step.table.into()),
     ];
     if let Some(names) = start.names() {
-        let name = names.get(step.table);
+        let name = target.and_then(|_| names.get(step.table));
         fields.push(("table_name", name.map_or(Json::Null, Json::from)));
     }
     fields.extend([
