@@ -3,7 +3,7 @@
 use generate::{live_tuple, log_header, plain_page, DataPage, Entry, Slots};
 use generate::{mutated_by, mutations, Case, Mutation, Rng};
 use generate::{BEGIN, CHECKPOINT, COMMIT, FREE};
-use library::refusal::{refusal, Place};
+use library::refusal::{refusal, Place, LOG_HEADER, LOG_TOO_LONG, PAGE_AREA};
 
 use crate::json::Value;
 use crate::sandbox::{Done, Sandbox};
@@ -43,7 +43,11 @@ fn assert_told(done: Done, number: u64, place: u64) {
     let known = refusal(number).expect("a refusal");
     let head = format!("lumbraquay: refused: {number} {}", known.name);
     let head = match known.place {
-        Place::Nothing => format!("{head}\n"),
+        Place::Nothing => match number {
+            PAGE_AREA => format!("{head} of pages\n"),
+            LOG_TOO_LONG | LOG_HEADER => format!("{head} of log\n"),
+            _ => format!("{head}\n"),
+        },
         Place::LogOffset => format!("{head} at offset {place} of log\n"),
         Place::PageIndex => format!(
             "{head} at page {place} of pages, offset {}\n",
