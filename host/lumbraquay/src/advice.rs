@@ -117,7 +117,8 @@ fn advice(verdict: Verdict, read: Read) -> String {
     }
     .to_string()];
     if is_page_file(verdict, read) {
-        parts.push("by its length it may be a page file: PAGES comes first, then LOG".to_string());
+        let order = read.pages.map_or("", |_| ": PAGES comes first, then LOG");
+        parts.push(format!("by its length it may be a page file{order}"));
     }
     parts.extend(read.log.and_then(|log| until(verdict, log)));
     parts.extend(read.pages.and_then(|pages| wrong_magic(verdict, pages)));

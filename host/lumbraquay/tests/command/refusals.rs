@@ -621,11 +621,16 @@ fn swapped_files_are_recognised() {
     sandbox
         .say("verify long.log")
         .refuses(&["refused: 18 PAGE_CHECKSUM", "starts with WALN"]);
-    for words in ["log outage.pages", "recover outage.pages outage.pages"] {
-        sandbox.say(words).refuses(&[
-            "refused: 3 LOG_HEADER",
-            "by its length it may be a page file",
-        ]);
+    for (words, advice) in [
+        ("log outage.pages", "it may be a page file\n"),
+        (
+            "recover outage.pages outage.pages",
+            "it may be a page file: PAGES comes first, then LOG\n",
+        ),
+    ] {
+        sandbox
+            .say(words)
+            .refuses(&["refused: 3 LOG_HEADER of outage.pages\n", advice]);
     }
 }
 

@@ -385,6 +385,10 @@ fn catalogs_that_cannot_be_read() {
     ] {
         sandbox.say(words).fails(&[text]);
     }
+    let told = sandbox
+        .say("log outage.log --catalog missing --json")
+        .fails_as_json("cannot open missing");
+    assert_eq!(told.text("catalog_file"), "missing");
     let piped = sandbox.shell("\"$LQ\" log outage.log --catalog - < catalog.pages");
     piped.done().says(&["portal.orders"]);
 }
