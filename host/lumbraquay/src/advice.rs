@@ -159,9 +159,8 @@ fn until(verdict: Verdict, log: &Log) -> Option<String> {
     if verdict.number != refusal::ENTRY_DAMAGED {
         return None;
     }
-    let After { zeros, next, bytes } = after_damage(log, verdict.place)?;
+    let After { next, bytes } = after_damage(log, verdict.place)?;
     let left_out = match next {
-        _ if zeros => format!("the {bytes} zero bytes"),
         None => format!("the {bytes} bytes from there on, in which no whole entry follows"),
         Some(next) => format!(
             "the {bytes} bytes from there on, with {} or more; transactions that end only there count as unended",

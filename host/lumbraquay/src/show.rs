@@ -51,6 +51,15 @@ pub fn outcome(number: u64) -> &'static str {
     }
 }
 
+/// How a log ends.
+pub fn ending(number: u64) -> &'static str {
+    match number {
+        library::ENDED_TORN => "torn",
+        library::ENDED_UNUSED => "unused",
+        _ => "exact",
+    }
+}
+
 /// The layout of a table.
 pub fn layout(number: u64) -> &'static str {
     match number {

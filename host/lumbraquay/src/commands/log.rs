@@ -1,7 +1,9 @@
 //! `log`: the entries of a log, forward or backward.
 
 use library::refusal::ENTRY_DAMAGED;
-use library::{Step, Verdict, LOG_HEAD_BYTES, STEP_DAMAGED, STEP_END, STEP_ENTRY, STEP_TORN};
+use library::{
+    Step, Verdict, LOG_HEAD_BYTES, STEP_DAMAGED, STEP_END, STEP_ENTRY, STEP_TORN, STEP_UNUSED,
+};
 
 use crate::advice::{refusal_fields, text, unless_refused};
 use crate::args::{Choice, Command, Parsed, CATALOG, JSON};
@@ -34,8 +36,9 @@ pub const COMMAND: Command = Command {
         CATALOG,
         JSON,
     ],
-    more: "A torn tail ends a log and is no fault. Damage is refusal 4, told after the entries before it. Backward, PLACE should be\n\
-           the end of an entry: from any other byte a row that contains the bytes of an entry may pass for one.\n\
+    more: "A torn tail, or unused room (zero bytes to the end of the file), ends a log and is no fault. Damage is refusal 4, told\n\
+           after the entries before it. Backward, PLACE should be the end of an entry: from any other byte a row that contains\n\
+           the bytes of an entry may pass for one.\n\
            Of several options that say which entries, an entry has to meet all.",
     run,
 };
@@ -219,6 +222,7 @@ fn end_of(log: &Log, start: &Start, stopped: u64) -> (Step, &'static str) {
     match end.kind {
         STEP_ENTRY => (no_entry(place), "more entries"),
         STEP_TORN => (end, "torn tail"),
+        STEP_UNUSED => (end, "unused room"),
         STEP_DAMAGED => (end, "damage"),
         _ if place == log.bytes.len() as u64 => (end, "exact end"),
         _ => (end, "no place of an entry"),
@@ -292,7 +296,7 @@ fn end_text(output: &mut Output, log: &Log, start: &Start, walked: &Walked) -> R
     let (end, kind) = end_of(log, start, walked.stopped);
     let place = end.next;
     let rest = match end.kind {
-        STEP_TORN => format!(", {} bytes", log.bytes.len() as u64 - place),
+        STEP_TORN | STEP_UNUSED => format!(", {} bytes", log.bytes.len() as u64 - place),
         _ => String::new(),
     };
     let entries = show::count(walked.entries, "entry", "entries");

@@ -233,10 +233,11 @@ fn what_is_found_is_told() {
         "leaves out the 125 bytes from there on, in which no whole entry follows",
     ]);
     ended[515..].fill(0);
+    ended[639] = 1;
     sandbox.write("outage.log", &ended);
     sandbox.say("log outage.log").refuses(&[
-        "found:      all 125 bytes from there on are 0\n",
-        "--log-until 515 takes only the log before that place, as if the power had failed there, and leaves out the 125 zero bytes\n",
+        "its length reads 0, but the byte at offset 639 is not, and no whole entry follows in the 125 bytes from there on",
+        "--log-until 515 takes only the log before that place, as if the power had failed there, and leaves out the 125 bytes from there on",
     ]);
     sandbox.write("text", b"this is no log, and long enough to hold a header");
     sandbox
