@@ -169,6 +169,17 @@ longer (b ∷ t) w l e =
               rw (spelling-more b (c ∷ u) h, spelling-last c u l, groups-last (b % 128 + 128 * (c % 128 + 128 * 0)) (omega arith)) (omega arith)
         ]
 
+-- no spelling of a number has fewer groups than those it is written in
+pub no-fewer : (t : List ℕ) → Bytes t → Whole t → length (groups (valueOf (spelling t))) ≤ length (spelling t)
+no-fewer t y w =
+    elim (decLe 1 (topOf t)) [
+      | yes h ↦ omega (arith, ap length (fewest t y w (inr h)))
+      | no h ↦ elim (decLe 1 (continued t)) [
+        | yes m ↦ omega (arith, longer t w m (omega arith))
+        | no m ↦ omega (arith, ap length (fewest t y w (inl (omega arith))))
+      ]
+    ]
+
 -- ---- as code tests it
 
 module _ (t : List ℕ) (y : Bytes t) (w : Whole t) where
