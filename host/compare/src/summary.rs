@@ -95,7 +95,7 @@ fn write(subject: &mut Subject, seen: &mut Seen) -> Option<(u64, Vec<u8>)> {
 }
 
 /// Both programs on a file: judged, some rows by their number, some steps; and, where it is not refused, all rows by
-/// steps.
+/// steps, and that the file is the one which the second program has for last LSN and rows.
 fn read(rng: &mut Rng, seen: &mut Seen, file: &[u8]) {
     let library = library::summary_read(file);
     let oracle = twin::summary(oracle::summary_read(file));
@@ -140,6 +140,8 @@ fn read(rng: &mut Rng, seen: &mut Seen, file: &[u8]) {
             .collect();
         let rows = oracle::summary_rows(file).unwrap_or_default();
         seen.items(format_args!("rows of {call}"), &steps, &rows);
+        let only = oracle::summary_file(library.lsn, &rows);
+        seen.items(format_args!("bytes of {call}, accepted"), file, &only);
         seen.event("summary gone through by steps");
     }
 }

@@ -23,8 +23,8 @@ pub use log::{backward, forward, log_open, EntryFields, Step};
 pub use recovery::{recover, Answer, Record};
 pub use row::{read_row, Row};
 pub use summary::{
-    summary_read, summary_row, summary_rows, summary_step, summary_write, Summary, SummaryRow,
-    SummaryStep,
+    summary_file, summary_read, summary_row, summary_rows, summary_step, summary_write, Summary,
+    SummaryRow, SummaryStep,
 };
 
 /// A page is 16,384 bytes.

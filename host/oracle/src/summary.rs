@@ -53,7 +53,7 @@ fn groups(number: u64) -> Vec<u8> {
 }
 
 /// The file of a last LSN and a row list.
-fn file(lsn: u64, rows: &[[u64; 3]]) -> Vec<u8> {
+pub fn summary_file(lsn: u64, rows: &[[u64; 3]]) -> Vec<u8> {
     let head = [EDITION, lsn, rows.len() as u64];
     let numbers = head.into_iter().chain(rows.iter().flatten().copied());
     numbers.flat_map(groups).collect()
@@ -71,7 +71,7 @@ pub fn summary_write(magic: u64, pages: &[u8], lsn: u64, area: &mut [u8]) -> Wri
         return refused(number, place);
     }
     let rows = visible_rows(pages).map(|row| [row.page, row.slot, row.length]);
-    let bytes = file(lsn, &rows.collect::<Vec<_>>());
+    let bytes = summary_file(lsn, &rows.collect::<Vec<_>>());
     if area.len() < bytes.len() {
         return refused(27, 0);
     }
