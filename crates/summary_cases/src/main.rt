@@ -280,7 +280,7 @@ fn several_faults() {
     judged(b"edition 2, spelled too long", &[130, 0, 128, 0]);
     judged(b"edition 2, then a zero group", &[2, 128, 0]);
     judged(
-        b"page 4096 that falls, spelled too long",
+        b"page 4096, spelled too long",
         &[1, 5, 2, 7, 5, 24, 128, 160, 0],
     );
     judged(

@@ -35,7 +35,7 @@ static void look(const char *function, size_t numbers, size_t out_len) {
         look(#function, numbers, out_len); \
     }
 
-static uint8_t pages[1 << 20], kept[sizeof pages], log_bytes[1 << 16], map[64], area[1 << 16];
+static uint8_t pages[1 << 20], kept[sizeof pages], log_bytes[1 << 16], map[64], list[1 << 16], area[LQ_TABLE_LIMIT_BYTES];
 static uint64_t table[64], rows[64];
 
 static size_t read_all(const char *name, uint8_t *into, size_t room) {
@@ -119,15 +119,15 @@ int main(int count, char **words) {
     must(whole[LQ_FREE_MAP_FREE] == 1, "lq_free_map", "one page is free", MOST);
     CALL(lq_free_map, LQ_FREE_MAP_NUMBERS, magic, kept, pages_len, NULL, 0)
     must(whole[LQ_FREE_MAP_NUMBER] == LQ_MAP_SHORT, "lq_free_map", "no map is too short", MOST);
-    CALL(lq_summary_write, LQ_SUMMARY_WRITE_NUMBERS, magic, kept, pages_len, 300, area, sizeof area)
+    CALL(lq_summary_write, LQ_SUMMARY_WRITE_NUMBERS, magic, kept, pages_len, 300, list, sizeof list)
     must(whole[LQ_SUMMARY_WRITE_NUMBER] == LQ_DONE, "lq_summary_write", "the area is long enough", MOST);
-    size_t area_len = whole[LQ_SUMMARY_WRITE_LENGTH];
-    CALL(lq_summary_read, LQ_SUMMARY_READ_NUMBERS, area, area_len)
+    size_t list_len = whole[LQ_SUMMARY_WRITE_LENGTH];
+    CALL(lq_summary_read, LQ_SUMMARY_READ_NUMBERS, list, list_len)
     must(whole[LQ_SUMMARY_READ_LSN] == 300 && whole[LQ_SUMMARY_READ_COUNT] > 1, "lq_summary_read", "there are rows", MOST);
     uint64_t first = whole[LQ_SUMMARY_READ_FIRST];
-    CALL(lq_summary_row, LQ_SUMMARY_ROW_NUMBERS, area, area_len, 0)
-    CALL(lq_summary_step, LQ_SUMMARY_STEP_NUMBERS, area, area_len, first)
-    lq_summary_row(area, area_len, 0, out, LQ_SUMMARY_ROW_NUMBERS);
+    CALL(lq_summary_row, LQ_SUMMARY_ROW_NUMBERS, list, list_len, 0)
+    CALL(lq_summary_step, LQ_SUMMARY_STEP_NUMBERS, list, list_len, first)
+    lq_summary_row(list, list_len, 0, out, LQ_SUMMARY_ROW_NUMBERS);
     for (int i = 0; i < 3; i++) {
         must(whole[LQ_SUMMARY_STEP_PAGE + i] == rows[LQ_ROW_PAGE + i], "lq_summary_step", "another first row", MOST);
         must(out[LQ_SUMMARY_ROW_PAGE + i] == rows[LQ_ROW_PAGE + i], "lq_summary_row", "another first row", MOST);

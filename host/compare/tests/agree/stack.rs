@@ -53,7 +53,9 @@ fn call_everything() {
     let mut summary = vec![0; library::summary_room(300)];
     let written = library::summary_write(MAGIC, &pages, 7, &mut summary);
     summary.truncate(written.length as usize);
-    assert_eq!(library::summary_read(&summary).count, 300 * 80);
+    let read = library::summary_read(&summary);
+    assert_eq!(read.count, 300 * 80);
+    assert_eq!(library::summary_step(&summary, read.first).length, 27);
     assert_eq!(library::summary_row(&summary, 300 * 80 - 1).page, 299);
     let row = library::read_row(MAGIC, 0, &pages, &log, 299, 900);
     assert_eq!(row.payload(&pages, &log), b"late");

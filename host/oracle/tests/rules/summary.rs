@@ -152,7 +152,7 @@ fn editions_ranges_and_order() {
         let rows = [&[7, 5, 24][..], &second, &[24]];
         assert_eq!(summary_read(&file(&rows)).number, 0, "{second:?}");
     }
-    // A page of 4,096 that also falls is 31; one that is spelled too long, 29.
+    // A page that falls and is spelled too long is 29.
     assert_eq!(
         summary_read(&file(&[&[7, 5, 24, 0x86, 0x00, 0, 24]])),
         refused(29, 6)
