@@ -1,5 +1,5 @@
-//! The summary of 327,680 visible rows written, read, gone through by steps and asked for its last row, beside one
-//! verification of the same pages; and a million bytes of any kind judged, beside half as many.
+//! The summary of 327,680 visible rows written, read, gone through by steps, asked for its last row and compared with the
+//! pages, beside one verification of the same pages; and a million bytes of any kind judged, beside half as many.
 use bench::best;
 use generate::{live_tuple, long_summary, DataPage, Rng, Slots};
 use std::hint::black_box;
@@ -61,6 +61,14 @@ fn rows() {
     let l = best(9, || {
         library::summary_row(black_box(&summary), total - 1).page
     });
+    let mut area = vec![0; library::summary_room(PAGES as usize)];
+    let d = best(9, || {
+        let written = library::summary_write(MAGIC, black_box(&pages), 0, &mut area);
+        let now = &area[..written.length as usize];
+        let rows = |list| library::summary_rows(list, library::summary_read(list));
+        let same = rows(&summary).zip(rows(now));
+        same.filter(|(then, now)| then.length == now.length).count()
+    });
     for (what, seconds) in [
         ("written", w),
         ("read", r),
@@ -73,6 +81,12 @@ fn rows() {
             bound(seconds / v, BOUND)
         );
     }
+    println!(
+        "{:>12}: {:.2} ms, {:.2}x: the list judged, that of the pages written and judged, one pass over both",
+        "compared",
+        d * 1e3,
+        d / v
+    );
 }
 
 /// The same kind of bytes, half as many and all.
