@@ -112,9 +112,10 @@ fn meaning(number: u64) -> &'static str {
 /// What to do about a refusal, with what is known of the files.
 fn advice(verdict: Verdict, read: Read) -> String {
     if is_swapped(verdict, read) {
-        return match read.is_catalog {
-            true => "it starts with WALN, as logs do: give --catalog the page file that holds the catalog",
-            false => "the page file starts with WALN, as logs do: give PAGES first, then LOG",
+        return match (read.is_catalog, read.log) {
+            (true, _) => "it starts with WALN, as logs do: give --catalog the page file that holds the catalog",
+            (false, Some(_)) => "the page file starts with WALN, as logs do: give PAGES first, then LOG",
+            (false, None) => "it starts with WALN, as logs do: give the page file",
         }
         .to_string();
     }
@@ -124,7 +125,11 @@ fn advice(verdict: Verdict, read: Read) -> String {
     }
     .to_string()];
     if is_page_file(verdict, read) {
-        let order = read.pages.map_or("", |_| ": PAGES comes first, then LOG");
+        let order = match (read.pages, read.summary) {
+            (None, _) => "",
+            (Some(_), None) => ": PAGES comes first, then LOG",
+            (Some(_), Some(_)) => ": FILE comes first, then PAGES",
+        };
         parts.push(format!("by its length it may be a page file{order}"));
     }
     parts.extend(read.log.and_then(|log| until(verdict, log)));

@@ -50,10 +50,16 @@ pub fn is_swapped(verdict: Verdict, read: Read) -> bool {
     of_pages && read.pages.is_some_and(|pages| is_log(&pages.bytes))
 }
 
-/// Whether what was given for a log may be a page file.
+/// Whether what was given for a log or a summary may be a page file.
 pub fn is_page_file(verdict: Verdict, read: Read) -> bool {
-    let whole = |log: &Log| log.length > 0 && log.length % PAGE_BYTES as u64 == 0;
-    verdict.number == refusal::LOG_HEADER && read.log.is_some_and(whole)
+    let length = match verdict.number {
+        refusal::LOG_HEADER => read.log.map(|log| log.length),
+        refusal::SUMMARY_ENDS_EARLY..=refusal::SUMMARY_LEFT_OVER => {
+            read.summary.map(|summary| summary.length)
+        }
+        _ => None,
+    };
+    length.is_some_and(|length| length > 0 && length % PAGE_BYTES as u64 == 0)
 }
 
 fn length(pages: &Pages) -> String {

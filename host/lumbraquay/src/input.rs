@@ -1,8 +1,11 @@
 //! The two files that commands read, and the options that say how.
 
+use std::io::Read as _;
 use std::path::{Path, PathBuf};
 
-use library::{SummaryStep, Verdict, LOG_HEAD_BYTES, LOG_LIMIT_BYTES, PAGE_BYTES, PAGE_LIMIT};
+use library::{
+    refusal, SummaryStep, Verdict, LOG_HEAD_BYTES, LOG_LIMIT_BYTES, PAGE_BYTES, PAGE_LIMIT,
+};
 
 use crate::args::Parsed;
 use crate::failure::Failure;
@@ -203,26 +206,64 @@ impl Log {
 /// A summary of visible rows, as the library judges it.
 pub struct Summary {
     pub path: PathBuf,
+    /// The file, or so much of its front that whatever is refused in it is a number that starts there.
     pub bytes: Vec<u8>,
-    /// The file's length, of which no more bytes are read than the longest summary has and one.
     pub length: u64,
+    /// How many groups the number at fault has behind these bytes.
+    pub groups_behind: u64,
     pub read: library::Summary,
 }
 
-/// The longest summary that is not refused: 15 bytes before the rows, and six for each slot that a row can name.
-const SUMMARY_LIMIT_BYTES: usize = 15 + 6 * PAGE_LIMIT * 4_080;
+/// The front of a file that is kept: 21 bytes before the rows and six for each slot that a row can name are more than the
+/// numbers before the one at fault have, and of that one there are more groups than the ten that fit 64 bits.
+const SUMMARY_FRONT_BYTES: usize = 64 + 6 * PAGE_LIMIT * 4_080;
 
 impl Summary {
     /// Reads the summary that is the first thing a command takes.
     pub fn read(parsed: &Parsed) -> Result<Summary, Failure> {
         let path = parsed.path(0);
-        let Whole { bytes, length, .. } = files::read(path, SUMMARY_LIMIT_BYTES)?;
-        Ok(Summary {
+        let Whole {
+            bytes,
+            length,
+            seen,
+        } = files::read(path, SUMMARY_FRONT_BYTES)?;
+        let mut summary = Summary {
             path: path.to_path_buf(),
             read: library::summary_read(&bytes),
             bytes,
             length,
-        })
+            groups_behind: 0,
+        };
+        if summary.read.number == refusal::SUMMARY_ENDS_EARLY
+            && summary.bytes.len() > SUMMARY_FRONT_BYTES
+        {
+            summary.read_on(&seen)?;
+        }
+        Ok(summary)
+    }
+
+    /// Where the front ends inside a number, the rest of the file says whether it ends at all: if so it has too many groups.
+    fn read_on(&mut self, seen: &Seen) -> Result<(), Failure> {
+        let mut piece = Vec::with_capacity(files::PIECE_BYTES);
+        let mut last = None;
+        while last.is_none() {
+            piece.clear();
+            let read = (&seen.file)
+                .take(files::PIECE_BYTES as u64)
+                .read_to_end(&mut piece)
+                .map_err(|error| Failure::file("read", &self.path, error))?;
+            if read == 0 {
+                break;
+            }
+            last = piece.iter().position(|group| *group < 128);
+            self.groups_behind += last.map_or(read, |last| last + 1) as u64;
+        }
+        if last.is_some() {
+            self.read.number = refusal::SUMMARY_SPELLING;
+        }
+        let known = self.bytes.len() as u64 + self.groups_behind;
+        self.length = self.length.max(known);
+        Ok(())
     }
 
     /// The rows, of a summary that is not refused.
@@ -290,6 +331,14 @@ impl<'a> Read<'a> {
         Read {
             summary: Some(summary),
             ..Read::default()
+        }
+    }
+
+    /// A summary that is compared with pages.
+    pub fn compared(summary: &'a Summary, pages: &'a Pages) -> Read<'a> {
+        Read {
+            pages: Some(pages),
+            ..Read::summary(summary)
         }
     }
 

@@ -140,7 +140,12 @@ fn run(words: &[OsString], output: &mut Output, told: &mut Told) -> Result<(), F
         Some("--version" | "-V") => output.line(format_args!("lumbraquay {VERSION}")),
         Some("help") => match rest {
             [] => output.text(&overview()),
-            rest => output.text(&find(rest)?.help()),
+            rest => match find(rest)? {
+                Found::Group(group) if rest.len() > 1 && !is_help(rest.get(1)) => {
+                    Err(wrong_action(group, rest.get(1)))
+                }
+                found => output.text(&found.help()),
+            },
         },
         _ => {
             let (command, rest) = match find(words)? {

@@ -4,6 +4,7 @@ use std::fmt::Display;
 use std::io::{BufWriter, IsTerminal, Write};
 
 use crate::failure::Failure;
+use crate::json::Json;
 use crate::plain::plain;
 
 pub struct Output {
@@ -46,6 +47,24 @@ impl Output {
 
     pub fn line(&mut self, line: impl Display) -> Result<(), Failure> {
         self.text(&format!("{line}\n"))
+    }
+
+    /// A JSON object as a line. Its lists come last and item by item, so that none is ever held whole.
+    pub fn object(
+        &mut self,
+        fields: Vec<(&'static str, Json)>,
+        lists: impl IntoIterator<Item = (&'static str, impl Iterator<Item = Json>)>,
+    ) -> Result<(), Failure> {
+        let fields = Json::Object(fields).to_string();
+        self.text(fields.strip_suffix('}').unwrap_or(&fields))?;
+        for (name, items) in lists {
+            self.text(&format!(",\"{name}\":["))?;
+            for (at, item) in items.enumerate() {
+                self.text(&format!("{}{item}", if at == 0 { "" } else { "," }))?;
+            }
+            self.text("]")?;
+        }
+        self.text("}\n")
     }
 
     pub fn flush(&mut self) -> Result<(), Failure> {

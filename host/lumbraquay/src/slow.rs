@@ -9,13 +9,22 @@ use crate::failure::note;
 const PATIENCE: Duration = Duration::from_secs(2);
 
 /// What a run does at a time.
-const WORKS: [&str; 4] = ["the work", "reading", "recovering", "writing"];
+const WORKS: [&str; 6] = [
+    "the work",
+    "reading",
+    "recovering",
+    "writing",
+    "showing",
+    "comparing",
+];
 
 #[derive(Clone, Copy)]
 pub enum Work {
     Reading = 1,
     Recovering,
     Writing,
+    Showing,
+    Comparing,
 }
 
 static AT: AtomicUsize = AtomicUsize::new(0);

@@ -27,30 +27,55 @@ fn value(groups: &[u8]) -> Option<u64> {
     })
 }
 
-/// Which number stands at a place, and the two rows' numbers before it.
-fn number(bytes: &[u8], place: usize) -> (String, Vec<u64>) {
-    let mut before = Vec::new();
-    let mut at = 0;
-    while at < place {
-        let own = groups(bytes, at);
-        before.push(value(own).unwrap_or(u64::MAX));
-        at += own.len().max(1);
-    }
-    let name = match HEAD.get(before.len()) {
-        Some(name) => name.to_string(),
-        None => {
-            let behind = before.len() - HEAD.len();
-            format!("{} of row {}", ROW[behind % 3], behind / 3)
+/// What stands before a number.
+#[derive(Default)]
+struct Before {
+    numbers: usize,
+    /// The row count, if it is among them.
+    count: u64,
+    /// The last three numbers that are whole rows, or the head.
+    row: [u64; 3],
+}
+
+impl Before {
+    fn of(bytes: &[u8], place: usize) -> Before {
+        let mut before = Before::default();
+        let (mut at, mut three) = (0, [0; 3]);
+        while at < place {
+            let own = groups(bytes, at);
+            let part = before.numbers % 3;
+            three[part] = value(own).unwrap_or(u64::MAX);
+            if part == 2 {
+                before.row = three;
+            }
+            if before.numbers == 2 {
+                before.count = three[2];
+            }
+            before.numbers += 1;
+            at += own.len().max(1);
         }
-    };
-    (name, before)
+        before
+    }
+
+    /// The name of the number behind them.
+    fn name(&self) -> String {
+        match HEAD.get(self.numbers) {
+            Some(name) => name.to_string(),
+            None => {
+                let behind = self.numbers - HEAD.len();
+                format!("{} of row {}", ROW[behind % 3], behind / 3)
+            }
+        }
+    }
 }
 
 pub fn found(summary: &Summary, refused: u64, place: u64) -> String {
     let bytes = &summary.bytes;
     let place = usize::try_from(place).unwrap_or(usize::MAX);
     let own = groups(bytes, place);
-    let (name, before) = number(bytes, place);
+    let before = Before::of(bytes, place);
+    let name = before.name();
+    let length = show::count(summary.length, "byte", "bytes");
     let shown = show::hex(&own[..own.len().min(SHOWN)]);
     let more = if own.len() > SHOWN { "..." } else { "" };
     let is = value(own).map_or("a number over 64 bits".to_string(), |value| {
@@ -58,26 +83,26 @@ pub fn found(summary: &Summary, refused: u64, place: u64) -> String {
     });
     match refused {
         refusal::SUMMARY_ENDS_EARLY if own.is_empty() => {
-            format!("{} bytes, where {name} should follow", summary.length)
+            format!("{length}, where {name} should follow")
         }
-        refusal::SUMMARY_ENDS_EARLY => format!(
-            "{} bytes, in which {name}, 0x{shown}{more}, has no last group",
-            summary.length
+        refusal::SUMMARY_ENDS_EARLY => {
+            format!("{length}, in which {name}, 0x{shown}{more}, has no last group")
+        }
+        refusal::SUMMARY_SPELLING if summary.groups_behind > 0 => format!(
+            "{name} is 0x{shown}{more}, in {} groups",
+            own.len() as u64 + summary.groups_behind
         ),
         refusal::SUMMARY_SPELLING => {
             format!("{name} is 0x{shown}{more}, {is} in {} groups", own.len())
         }
         refusal::SUMMARY_ORDER => {
-            let row = match before.len().checked_sub(3 + (before.len() % 3)) {
-                Some(at) => format!(", behind page {} slot {}", before[at], before[at + 1]),
-                None => String::new(),
-            };
-            format!("{name} is {is}{row}")
+            let [page, slot, _] = before.row;
+            format!("{name} is {is}, behind page {page} slot {slot}")
         }
         refusal::SUMMARY_LEFT_OVER => format!(
-            "{} bytes behind the last row, {}",
-            summary.length.saturating_sub(place as u64),
-            show::count(before.get(2).copied().unwrap_or(0), "row", "rows")
+            "{} left over; the row count promises {}",
+            show::count(summary.length.saturating_sub(place as u64), "byte", "bytes"),
+            show::count(before.count, "row", "rows")
         ),
         _ => format!("{name} is {is}"),
     }

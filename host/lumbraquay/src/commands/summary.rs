@@ -3,7 +3,7 @@
 use std::cmp::Ordering;
 use std::iter::Peekable;
 
-use library::{Listed, SummaryStep};
+use library::SummaryStep;
 
 use crate::advice::unless_refused;
 use crate::args::{Choice, Command, Parsed, JSON, MAGIC, QUIET};
@@ -11,10 +11,10 @@ use crate::failure::Failure;
 use crate::files::{self, is_standard};
 use crate::input::{head_fields, Pages, Read, Summary};
 use crate::json::Json;
-use crate::listing;
 use crate::memory;
 use crate::output::Output;
 use crate::show;
+use crate::slow::{self, Work};
 
 pub const WRITE: Command = Command {
     name: "summary write",
@@ -49,8 +49,13 @@ pub const DIFF: Command = Command {
     name: "summary diff",
     about: "compares a list of visible rows with those of a page file: gone, new, changed in length",
     takes: &[FILE, super::PAGES],
-    options: &[MAGIC, JSON],
-    more: "A row is gone if FILE has it and PAGES does not, new if it is the other way round. Rows are told apart by page and slot.",
+    options: &[
+        Choice::value("--limit", "N", "show no more changes than this; all are counted"),
+        MAGIC,
+        JSON,
+    ],
+    more: "A row is gone if FILE has it and PAGES does not, new if it is the other way round. Rows are told apart by page and slot.\n\
+           The exit status is 0 whatever changes there are; the last line counts them.",
     run: diff,
 };
 
@@ -117,25 +122,24 @@ fn rows(count: u64) -> String {
     show::count(count, "visible row", "visible rows")
 }
 
-/// The list that is the first thing a command takes, unless it is refused.
-fn judged(parsed: &Parsed, output: &mut Output) -> Result<Summary, Failure> {
-    let summary = Summary::read(parsed)?;
-    let verdict = summary.read.verdict();
-    unless_refused(parsed, output, verdict, Read::summary(&summary))?;
-    Ok(summary)
+/// How many rows or changes are shown at most.
+fn limit(parsed: &Parsed) -> Result<usize, Failure> {
+    let limit = parsed.chosen_number("--limit")?.unwrap_or(u64::MAX);
+    Ok(usize::try_from(limit).unwrap_or(usize::MAX))
 }
 
 fn show(parsed: &Parsed, output: &mut Output) -> Result<(), Failure> {
-    let limit = parsed.chosen_number("--limit")?.unwrap_or(u64::MAX);
-    let limit = usize::try_from(limit).unwrap_or(usize::MAX);
-    let summary = judged(parsed, output)?;
+    let limit = limit(parsed)?;
+    let summary = Summary::read(parsed)?;
+    let verdict = summary.read.verdict();
+    unless_refused(parsed, output, verdict, Read::summary(&summary))?;
+    slow::at(Work::Showing);
     let shown = summary.rows().take(limit);
     if parsed.flag("--json") {
-        let mut fields = head_fields(parsed, "done", summary.read.verdict());
+        let mut fields = head_fields(parsed, "done", verdict);
         fields.extend(summary.fields());
-        let rows = shown.map(|row| Json::Object(Row::of(row).fields()));
-        fields.push(("rows", Json::List(rows.collect())));
-        return output.line(Json::Object(fields));
+        let rows = shown.map(|row| Json::Object(row_fields(row)));
+        return output.object(fields, [("rows", rows)]);
     }
     output.line(summary.line())?;
     output.line("  page   slot  length")?;
@@ -153,47 +157,46 @@ fn show(parsed: &Parsed, output: &mut Output) -> Result<(), Failure> {
     }
 }
 
-/// A row of either side.
-#[derive(Clone, Copy)]
-struct Row {
-    page: u64,
-    slot: u64,
-    length: u64,
-}
-
-impl Row {
-    fn of(step: SummaryStep) -> Row {
-        Row {
-            page: step.page,
-            slot: step.slot,
-            length: step.length,
-        }
-    }
-
-    fn listed(row: Listed) -> Row {
-        Row {
-            page: row.page,
-            slot: row.slot,
-            length: row.length,
-        }
-    }
-
-    fn fields(self) -> Vec<(&'static str, Json)> {
-        vec![
-            ("page", self.page.into()),
-            ("slot", self.slot.into()),
-            ("length", self.length.into()),
-        ]
-    }
+fn row_fields(row: SummaryStep) -> Vec<(&'static str, Json)> {
+    vec![
+        ("page", row.page.into()),
+        ("slot", row.slot.into()),
+        ("length", row.length.into()),
+    ]
 }
 
 /// What became of a row.
 enum Change {
-    Gone(Row),
-    New(Row),
-    /// With its length then and now.
-    Changed(Row, u64),
+    Gone(SummaryStep),
+    New(SummaryStep),
+    /// With its length now.
+    Changed(SummaryStep, u64),
     Same,
+}
+
+/// The kinds of change, in the order in which they are told.
+const KINDS: [&str; 3] = ["gone", "new", "changed"];
+const COUNTS: [&str; 3] = ["gone_count", "new_count", "changed_count"];
+
+impl Change {
+    /// Its kind's place among these; none where nothing changed.
+    fn kind(&self) -> Option<usize> {
+        match self {
+            Change::Gone(_) => Some(0),
+            Change::New(_) => Some(1),
+            Change::Changed(..) => Some(2),
+            Change::Same => None,
+        }
+    }
+
+    /// Its row, with the length now where that is another.
+    fn row(self) -> Option<(SummaryStep, Option<u64>)> {
+        match self {
+            Change::Gone(row) | Change::New(row) => Some((row, None)),
+            Change::Changed(row, now) => Some((row, Some(now))),
+            Change::Same => None,
+        }
+    }
 }
 
 /// The rows of two lists, each in order, compared one by one.
@@ -202,11 +205,11 @@ struct Compared<A: Iterator, B: Iterator> {
     now: Peekable<B>,
 }
 
-impl<A: Iterator<Item = Row>, B: Iterator<Item = Row>> Iterator for Compared<A, B> {
+impl<A: Iterator<Item = SummaryStep>, B: Iterator<Item = SummaryStep>> Iterator for Compared<A, B> {
     type Item = Change;
 
     fn next(&mut self) -> Option<Change> {
-        let place = |row: &Row| (row.page, row.slot);
+        let place = |row: &SummaryStep| (row.page, row.slot);
         let order = match (self.then.peek(), self.now.peek()) {
             (None, None) => return None,
             (Some(_), None) => Ordering::Less,
@@ -224,64 +227,81 @@ impl<A: Iterator<Item = Row>, B: Iterator<Item = Row>> Iterator for Compared<A, 
     }
 }
 
+/// Compares the list with that of the pages, which is written into memory: once to count the changes, and once for each
+/// kind to tell them, so that none is kept.
 fn diff(parsed: &Parsed, output: &mut Output) -> Result<(), Failure> {
-    let summary = judged(parsed, output)?;
+    let limit = limit(parsed)?;
+    let summary = Summary::read(parsed)?;
     let pages = Pages::read_at(parsed, 1)?;
-    let verdict = library::verify(pages.magic, &pages.bytes);
-    unless_refused(parsed, output, verdict, Read::pages(&pages))?;
+    let read = Read::compared(&summary, &pages);
+    unless_refused(parsed, output, summary.read.verdict(), read)?;
+    slow::at(Work::Comparing);
+    let mut area = memory::room(library::summary_room(pages.count()))?;
+    area.resize(area.capacity(), 0);
+    let written = library::summary_write(pages.magic, &pages.bytes, 0, &mut area);
+    unless_refused(parsed, output, written.verdict(), read)?;
+    area.truncate(written.length as usize);
+    let now = library::summary_read(&area);
 
-    let compared = Compared {
-        then: summary.rows().map(Row::of).peekable(),
-        now: listing::rows(&pages, library::list_visible, None)
-            .map(|row| Row::listed(row.at))
-            .peekable(),
+    let compared = || Compared {
+        then: summary.rows().peekable(),
+        now: library::summary_rows(&area, now).peekable(),
     };
-    let (mut gone, mut new, mut changed, mut same) = (Vec::new(), Vec::new(), Vec::new(), 0u64);
-    for change in compared {
-        match change {
-            Change::Gone(row) => gone.push(row),
-            Change::New(row) => new.push(row),
-            Change::Changed(then, now) => changed.push((then, now)),
-            Change::Same => same += 1,
+    let (mut counts, mut same) = ([0; KINDS.len()], 0u64);
+    for change in compared() {
+        match change.kind() {
+            Some(kind) => counts[kind] += 1,
+            None => same += 1,
         }
     }
+    // Of each kind as many as the kinds before it leave of the limit.
+    let mut left = limit;
+    let lists = (0..KINDS.len()).map(|kind| {
+        let shown = left.min(counts[kind]);
+        left -= shown;
+        let own = compared().filter(move |change| change.kind() == Some(kind));
+        (KINDS[kind], own.filter_map(Change::row).take(shown))
+    });
     if parsed.flag("--json") {
-        let list =
-            |rows: &[Row]| Json::List(rows.iter().map(|row| Json::Object(row.fields())).collect());
-        let changed = changed.iter().map(|(then, now)| {
-            let mut fields = then.fields();
-            fields.push(("length_now", (*now).into()));
-            Json::Object(fields)
-        });
-        let mut fields = head_fields(parsed, "done", verdict);
+        let mut fields = head_fields(parsed, "done", written.verdict());
         fields.extend(summary.fields());
         fields.extend(pages.fields());
-        fields.extend([
-            ("same", same.into()),
-            ("gone", list(&gone)),
-            ("new", list(&new)),
-            ("changed", Json::List(changed.collect())),
-        ]);
-        return output.line(Json::Object(fields));
+        fields.push(("same", same.into()));
+        for (name, count) in COUNTS.into_iter().zip(counts) {
+            fields.push((name, count.into()));
+        }
+        let lists = lists.map(|(name, rows)| {
+            let rows = rows.map(|(row, now)| {
+                let mut fields = row_fields(row);
+                fields.extend(now.map(|now| ("length_now", now.into())));
+                Json::Object(fields)
+            });
+            (name, rows)
+        });
+        return output.object(fields, lists);
     }
     output.line(summary.line())?;
     output.line(pages.line())?;
-    for (word, rows) in [("gone", &gone), ("new", &new)] {
-        for Row { page, slot, length } in rows {
+    for (word, rows) in lists {
+        for (
+            SummaryStep {
+                page, slot, length, ..
+            },
+            now,
+        ) in rows
+        {
+            let now = now.map_or(String::new(), |now| format!(", now {now}"));
             output.line(format_args!(
-                "  {word:<8} page {page} slot {slot}, {length} bytes"
+                "  {word:<8} page {page} slot {slot}, {length} bytes{now}"
             ))?;
         }
     }
-    for (Row { page, slot, length }, now) in &changed {
-        output.line(format_args!(
-            "  changed  page {page} slot {slot}, {length} bytes, now {now}"
-        ))?;
+    let [gone, new, changed] = counts;
+    let all = gone + new + changed;
+    if limit < all {
+        output.line(format_args!("{limit} of {all} changes shown"))?;
     }
     output.line(format_args!(
-        "{} gone, {} new, {} changed in length, {same} as listed",
-        gone.len(),
-        new.len(),
-        changed.len()
+        "{gone} gone, {new} new, {changed} changed in length, {same} as listed"
     ))
 }

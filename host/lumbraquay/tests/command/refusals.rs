@@ -608,15 +608,17 @@ fn bytes_needed_are_too_many() {
 #[test]
 fn swapped_files_are_recognised() {
     let sandbox = Sandbox::with_outage();
-    for words in [
-        "recover outage.log outage.pages",
-        "row outage.log outage.pages 1 1",
-        "verify outage.log",
+    let both = "the page file starts with WALN, as logs do: give PAGES first, then LOG\n";
+    let alone = "it starts with WALN, as logs do: give the page file\n";
+    for (words, advice) in [
+        ("recover outage.log outage.pages", both),
+        ("row outage.log outage.pages 1 1", both),
+        ("verify outage.log", alone),
+        ("summary write outage.log --lsn 1 --out list", alone),
     ] {
-        sandbox.say(words).refuses(&[
-            "refused: 1 PAGE_AREA",
-            "the page file starts with WALN, as logs do: give PAGES first, then LOG",
-        ]);
+        sandbox
+            .say(words)
+            .refuses(&["refused: 1 PAGE_AREA", advice]);
     }
     let mut log = sandbox.read("outage.log");
     log.resize(16_384, 0);
@@ -634,6 +636,21 @@ fn swapped_files_are_recognised() {
         sandbox
             .say(words)
             .refuses(&["refused: 3 LOG_HEADER of outage.pages\n", advice]);
+    }
+    sandbox
+        .say("summary write outage.pages --lsn 1 --out list")
+        .done();
+    for (words, advice) in [
+        ("summary show outage.pages", "it may be a page file\n"),
+        (
+            "summary diff outage.pages list",
+            "it may be a page file: FILE comes first, then PAGES\n",
+        ),
+    ] {
+        sandbox.say(words).refuses(&[
+            "refused: 30 SUMMARY_EDITION at offset 0 of outage.pages\n",
+            advice,
+        ]);
     }
 }
 

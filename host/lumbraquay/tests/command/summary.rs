@@ -1,7 +1,7 @@
 //! `summary write`, `summary show` and `summary diff`: the rows are the library's, a refusal says where and why, and no file
 //! is half-written.
 
-use generate::{case, Case};
+use generate::{case, live_tuple, Case, DataPage, Slots};
 use library::PAGE_BYTES;
 
 use crate::sandbox::Sandbox;
@@ -72,6 +72,117 @@ fn changes_since_a_list_are_told() {
         ["page", "slot", "length", "length_now"].map(|name| changed.number(name)),
         [1, 1, 61, 60]
     );
+}
+
+/// Of the changes no more are told than the limit, in the same order; all are counted.
+#[test]
+fn changes_are_told_up_to_a_limit() {
+    let sandbox = with_list();
+    sandbox
+        .say("recover outage.pages outage.log --quiet")
+        .done();
+    let diff = "summary diff rows outage.pages.recovered";
+    let all = sandbox.say(diff).done().out;
+    let changes: Vec<&str> = all.lines().filter(|line| line.starts_with("  ")).collect();
+    let counts = "2 gone, 2 new, 1 changed in length, 3 as listed\n";
+    assert_eq!(changes.len(), 5);
+    for limit in 0..7 {
+        let some = sandbox.say(&format!("{diff} --limit {limit}")).done();
+        let some = some.says(&[counts]);
+        let told = some.out.lines().filter(|line| line.starts_with("  "));
+        assert!(told.eq(changes.iter().copied().take(limit)), "{limit}");
+        let says = some
+            .out
+            .contains(&format!("\n{limit} of 5 changes shown\n"));
+        assert_eq!(says, limit < 5, "{limit}");
+        let some = sandbox.say(&format!("{diff} --limit {limit} --json"));
+        let some = some.done().json();
+        let lists = ["gone", "new", "changed"].map(|name| some.list(name).len());
+        assert_eq!(lists.iter().sum::<usize>(), limit.min(5));
+        assert_eq!(
+            ["gone_count", "new_count", "changed_count", "same"].map(|name| some.number(name)),
+            [2, 2, 1, 3]
+        );
+    }
+}
+
+/// Pages of so many rows that a listing of them takes several calls, and a list of which every row is gone, or changed.
+#[test]
+fn many_rows_are_compared() {
+    let sandbox = Sandbox::new();
+    let page = |id: u64, bytes: usize| {
+        let slots: Slots = (0..500)
+            .map(|slot| (slot, live_tuple(1, &vec![7; bytes])))
+            .collect();
+        DataPage::plain(7, id, 0, slots).packed()
+    };
+    let pages = |bytes: usize| (0..140).flat_map(|id| page(id, bytes)).collect::<Vec<u8>>();
+    sandbox.write("then", &pages(0));
+    sandbox.write("now", &pages(1));
+    sandbox.write("none", &DataPage::plain(7, 0, 0, Slots::new()).packed());
+    sandbox
+        .say("summary write then --lsn 1 --out list --quiet")
+        .done();
+    for (file, counts) in [
+        (
+            "then",
+            "0 gone, 0 new, 0 changed in length, 70000 as listed\n",
+        ),
+        (
+            "now",
+            "0 gone, 0 new, 70000 changed in length, 0 as listed\n",
+        ),
+        (
+            "none",
+            "70000 gone, 0 new, 0 changed in length, 0 as listed\n",
+        ),
+    ] {
+        let told = sandbox.say(&format!("summary diff list {file}")).done();
+        let told = told.says(&[counts]);
+        let lines = told.out.lines().filter(|line| line.starts_with("  "));
+        assert_eq!(lines.count(), if file == "then" { 0 } else { 70_000 });
+    }
+    let told = sandbox.say("summary diff list now --json").done().json();
+    let changed = told.list("changed");
+    assert_eq!(changed.len(), 70_000);
+    assert_eq!(
+        ["page", "slot", "length", "length_now"].map(|name| changed[69_999].number(name)),
+        [139, 499, 24, 25]
+    );
+}
+
+/// The whole file is judged, however long: a number that goes on ends early only where no last group follows.
+#[test]
+fn numbers_of_a_hundred_million_groups_are_judged() {
+    let sandbox = Sandbox::new();
+    for (before, groups, last, refused, found) in [
+        (
+            "",
+            100_270_198,
+            "\\0",
+            "29 SUMMARY_SPELLING at offset 0 of -\n",
+            "the edition is 0x808080808080808080808080..., in 100270199 groups\n",
+        ),
+        (
+            "\\001",
+            100_500_000,
+            "\\001\\0",
+            "29 SUMMARY_SPELLING at offset 1 of -\n",
+            "the last LSN is 0x808080808080808080808080..., in 100500001 groups\n",
+        ),
+        (
+            "\\001",
+            100_500_000,
+            "",
+            "28 SUMMARY_ENDS_EARLY at offset 1 of -\n",
+            "100500001 bytes, in which the last LSN, 0x808080808080808080808080..., has no last group\n",
+        ),
+    ] {
+        let line = format!(
+            "{{ printf '{before}'; head -c {groups} /dev/zero | tr '\\0' '\\200'; printf '{last}'; }} | \"$LQ\" summary show -"
+        );
+        sandbox.shell(&line).refuses(&[refused, found]);
+    }
 }
 
 /// Cases whose pages are all good and few.
@@ -152,10 +263,19 @@ fn pages_that_are_not_good_are_refused() {
         sandbox.names(),
         ["outage.log", "outage.pages", "rows", "torn"]
     );
+    let told = sandbox.say("summary diff rows torn --json").ends(3).json();
+    assert_eq!(
+        ["summary_file", "pages_file"].map(|name| told.text(name)),
+        ["rows", "torn"]
+    );
+    assert_eq!(
+        ["number", "lsn", "count"].map(|name| told.number(name)),
+        [18, 114, 6]
+    );
 }
 
 /// A file, and what its refusal says.
-const REFUSED: [(&[u8], &str, &str); 12] = [
+const REFUSED: [(&[u8], &str, &str); 15] = [
     (
         &[],
         "28 SUMMARY_ENDS_EARLY at offset 0 of list",
@@ -214,7 +334,22 @@ const REFUSED: [(&[u8], &str, &str); 12] = [
     (
         &[1, 5, 1, 7, 5, 24, 0, 0],
         "33 SUMMARY_LEFT_OVER at offset 6",
-        "2 bytes behind the last row, 1 row",
+        "2 bytes left over; the row count promises 1 row",
+    ),
+    (
+        &[1, 5, 0, 128],
+        "33 SUMMARY_LEFT_OVER at offset 3",
+        "1 byte left over; the row count promises 0 rows",
+    ),
+    (
+        &[1],
+        "28 SUMMARY_ENDS_EARLY at offset 1",
+        "1 byte, where the last LSN should follow",
+    ),
+    (
+        &[1, 5, 3, 7, 5, 24, 8, 6, 24, 8, 6, 24],
+        "32 SUMMARY_ORDER at offset 10",
+        "the slot of row 2 is 6, behind page 8 slot 6",
     ),
 ];
 
@@ -254,6 +389,7 @@ fn words_of_two_word_commands() {
             "summary needs one of write, show, diff behind it",
         ),
         ("summary mend", "'mend' is none of write, show, diff"),
+        ("help summary mend", "'mend' is none of write, show, diff"),
         (
             "summary write outage.pages --out x",
             "--lsn is missing: the last LSN",
@@ -276,7 +412,9 @@ fn words_of_two_word_commands() {
         "  show ",
         "  diff ",
     ]);
-    assert_eq!(sandbox.say("help summary").done().out, group.out);
+    for words in ["help summary", "help summary --help"] {
+        assert_eq!(sandbox.say(words).done().out, group.out);
+    }
     assert_eq!(
         sandbox.say("help summary diff").done().out,
         sandbox.say("summary diff --help").done().out
