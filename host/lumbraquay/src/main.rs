@@ -144,6 +144,10 @@ fn run(words: &[OsString], output: &mut Output, told: &mut Told) -> Result<(), F
                 Found::Group(group) if rest.len() > 1 && !is_help(rest.get(1)) => {
                     Err(wrong_action(group, rest.get(1)))
                 }
+                Found::Command(_, [word, ..]) if !is_help(Some(word)) => {
+                    let word = word.to_string_lossy();
+                    Err(Failure::Usage(format!("'{word}' is one word too many")))
+                }
                 found => output.text(&found.help()),
             },
         },

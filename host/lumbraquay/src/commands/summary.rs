@@ -78,6 +78,7 @@ fn write(parsed: &Parsed, output: &mut Output) -> Result<(), Failure> {
         return Err(Failure::File(why.to_string()));
     }
     let pages = Pages::read(parsed)?;
+    slow::at(Work::Writing);
     let mut area = memory::room(library::summary_room(pages.count()))?;
     area.resize(area.capacity(), 0);
     let written = library::summary_write(pages.magic, &pages.bytes, lsn, &mut area);
@@ -283,16 +284,11 @@ fn diff(parsed: &Parsed, output: &mut Output) -> Result<(), Failure> {
     output.line(summary.line())?;
     output.line(pages.line())?;
     for (word, rows) in lists {
-        for (
-            SummaryStep {
-                page, slot, length, ..
-            },
-            now,
-        ) in rows
-        {
+        for (row, now) in rows {
             let now = now.map_or(String::new(), |now| format!(", now {now}"));
             output.line(format_args!(
-                "  {word:<8} page {page} slot {slot}, {length} bytes{now}"
+                "  {word:<8} page {} slot {}, {} bytes{now}",
+                row.page, row.slot, row.length
             ))?;
         }
     }

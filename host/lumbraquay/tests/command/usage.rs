@@ -69,6 +69,7 @@ fn wrong_words_are_told() {
         ("", "no command is given"),
         ("mend", "'mend' is no command"),
         ("help mend", "'mend' is no command"),
+        ("help verify mend", "'mend' is one word too many"),
         ("verify", "PAGES is missing: the page file"),
         ("recover outage.pages", "LOG is missing: the log file"),
         (
