@@ -9,13 +9,13 @@ use mathlib.Core.List.{List, [], _∷_, _++_}
 use lib.ListN.{length, getD, replicate, length-append}
 use lib.Dec.{lit<, lit≤}
 use Rattle.endian.specs.Numbers.{Bytes, numberOf, numberAt}
-use Rattle.endian.proofs.Bytes.{bytes-nil}
+use Rattle.endian.proofs.Bytes.{bytes-nil, bytes-append, bytes-zeros}
 use Rattle.page.specs.Layout.{pageBytes, bodyBytes, dataType, pagesIn, pageAt, typeOf, lsnOf, countOf, slotAt}
 use Rattle.page.specs.Packed.{Head, packed, roomFor}
 use Rattle.page.specs.Good.{Good, TupleGood}
 use Rattle.page.proofs.Fields.{count-back, lsn-back, type-back}
 use Rattle.page.proofs.Slots.{length-packed, slot-back}
-use Rattle.page.proofs.Goodness.{packed-good, body-bytes}
+use Rattle.page.proofs.Goodness.{packed-good, packed-bytes, body-bytes}
 use Rattle.rules.proofs.Area.{page-first, page-later}
 use Rattle.cases.specs.Build.{Page, page, tuple, headOf, magic, pageOf, areaFrom, area}
 use Rattle.cases.proofs.Parts.{tuple-bytes}
@@ -97,3 +97,10 @@ page-from i (p ∷ ps) h (suc j) l =
 
 pub page-at : (ps : List Page) → EachPage PageOk ps → (i : ℕ) → i < length ps → pageAt i (area ps) ≡ pageOf i (nth ps i)
 page-at ps h i l = let e : 0 + i ≡ i = omega arith in page-from 0 ps h i l ∙ ap (λ (k : ℕ). pageOf k (nth ps i)) e
+
+bytes-from : (i : ℕ) (ps : List Page) → EachPage PageOk ps → Bytes (areaFrom i ps)
+bytes-from i [] h = bytes-nil
+bytes-from i (p ∷ ps) h = bytes-append (packed-bytes (headOf i (p .lsn)) (p .slots) (bytes-zeros 28) (h .0 .bytes)) (bytes-from (suc i) ps (h .1))
+
+pub area-bytes : (ps : List Page) → EachPage PageOk ps → Bytes (area ps)
+area-bytes ps h = bytes-from 0 ps h

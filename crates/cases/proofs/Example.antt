@@ -14,14 +14,12 @@ use Rattle.endian.specs.Numbers.{bytesOf, numberOf, numberAt}
 use Rattle.wal.specs.Entry.{Entry, AllEncodable, encoded, encodedAll, unsealed, header, sizesOf}
 use Rattle.wal.specs.Read.{headerFault, allZero, readAt}
 use Rattle.wal.specs.Walk.{entries, endOf, endingOf}
-use Rattle.wal.specs.declared.EntryView.{EntryView}
-use Rattle.wal.specs.declared.Reading.{Reading}
-use Rattle.wal.specs.declared.Reading.the-variants.{Whole, Torn, Unused}
+use Rattle.wal.specs.declared.Reading.the-variants.{Torn, Unused}
 use Rattle.wal.proofs.WalkLaws.{not-torn, not-unused}
-use Rattle.wal.proofs.Encoding.{entries-encoded, end-encoded, entries-log}
+use Rattle.wal.proofs.Encoding.{entries-log}
 use Rattle.page.specs.Layout.{dataType, pagesIn, pageAt, typeOf, slotAt}
 use Rattle.rules.specs.Shape.{Change, both, isKnown, isChange, isChanging, isImage, same, isKeyed, isBare, isShaped, pageOf, slotOf, beforeOf, afterOf, isOn, effectOn, topOn, sameSlot}
-use Rattle.rules.specs.Order.{begun, ended, isOpen, inOrder, clashes, faultAfter, orderFrom, endVerdict}
+use Rattle.rules.specs.Order.{begun, ended, isOpen, inOrder, clashes, faultAfter, orderFrom}
 use Rattle.rules.specs.Mend.{committed, changes, topOf, decided}
 use Rattle.rules.specs.Recover.{recoverOf}
 use Rattle.rules.proofs.Slots.{changes-past}
@@ -34,7 +32,7 @@ use Rattle.cases.specs.Example.{before, steps, whole, all, log, torn, ro
 use Rattle.cases.proofs.Parts.{tuple-bytes, bare, insertable, updatable}
 use Rattle.cases.proofs.Area.{PageOk, EachPage, empty-ok, filled-ok, pages-in, page-at, slot-of, type-of}
 use Rattle.cases.proofs.Pages.{Says, ends-log, Computes, number}
-use Rattle.refusals.specs.Verdict.{accepted}
+use Rattle.cases.proofs.Behind.{Behind, end-is, ending-is, says-file}
 use Rattle.rules.specs.Lent.{lent}
 
 -- ---- pages
@@ -52,9 +50,9 @@ first-1 k = ap (λ (p : List ℕ). slotAt p k) (page-at (page 0 (a ∷ []) ∷ p
 -- ---- the history
 
 -- a change finds its before-image if its own slot holds it
-finds : (s : State) (e : Entry) → s .slot (pageOf e) (slotOf e) ≡ beforeOf e → (i k : ℕ) → typeOf (pageAt i before) ≡ dataType → Finds (s .slot i k) (effectOn i k e)
+pub finds : (s : State) (e : Entry) → s .slot (pageOf e) (slotOf e) ≡ beforeOf e → (i k : ℕ) → Finds (s .slot i k) (effectOn i k e)
 unfolding effectOn isOn
-finds s e h i k d = go (isChange e) (eqb (pageOf e) i) (eqb (slotOf e) k) refl refl
+finds s e h i k = go (isChange e) (eqb (pageOf e) i) (eqb (slotOf e) k) refl refl
   where
     go : (x y z : Bool) → eqb (pageOf e) i ≡ y → eqb (slotOf e) k ≡ z
         → Finds (s .slot i k) (pick {A = List Change} (both (both x y) z) (record { by = e .txn; before = beforeOf e; after = afterOf e } ∷ []) [])
@@ -63,7 +61,7 @@ finds s e h i k d = go (isChange e) (eqb (pageOf e) i) (eqb (slotOf e) k) refl r
     go true false z p q = tt
     go false y z p q = tt
 
-encodable : AllEncodable whole
+pub encodable : AllEncodable whole
 encodable = (
   bare 1 1 7 (lit< tt) (lit< tt) (lit< tt),
   (
@@ -84,7 +82,7 @@ encodable = (
   ),
 )
 
-all-encodable : AllEncodable all
+pub all-encodable : AllEncodable all
 all-encodable =
     let e = encodable in
     (e .0, (e .1 .0, (e .1 .1 .0, (e .1 .1 .1 .0, (e .1 .1 .1 .1 .0, (e .1 .1 .1 .1 .1 .0, (e .1 .1 .1 .1 .1 .1 .0, (e .1 .1 .1 .1 .1 .1 .1 .0, (bare 1 9 10 (lit< tt) (lit< tt) (lit< tt), tt)))))))))
@@ -93,21 +91,21 @@ all-encodable =
 abbrev at : ℕ → State
 at n = run (start before) (take n steps)
 
-honest : Honest (λ i. typeOf (pageAt i before) ≡ dataType) (start before) steps
+pub honest : Honest (λ i. typeOf (pageAt i before) ≡ dataType) (start before) steps
 unfolding effectOn isOn isChanging beforeOf afterOf numberAt numberOf bytesOf
 honest = (
   λ i k d. tt,
   (
-    finds (at 1) (updates 2 7 0 0 a b) (first-0 0),
+    λ i k d. finds (at 1) (updates 2 7 0 0 a b) (first-0 0) i k,
     (
       λ i k d. tt,
       (
         λ i k d. tt,
         (
-          finds (at 4) (inserts 5 8 1 0 a) (first-1 0),
+          λ i k d. finds (at 4) (inserts 5 8 1 0 a) (first-1 0) i k,
           (
             λ i k d. tt,
-            (finds (at 6) (updates 7 9 0 0 b c) refl, (finds (at 7) (inserts 8 9 0 1 a) (first-0 1), (λ i k d. tt, tt))),
+            (λ i k d. finds (at 6) (updates 7 9 0 0 b c) refl i k, (λ i k d. finds (at 7) (inserts 8 9 0 1 a) (first-0 1) i k, (λ i k d. tt, tt))),
           ),
         ),
       ),
@@ -115,7 +113,7 @@ honest = (
   ),
 )
 
-pub example : History
+unfoldable pub example : History
 example = record { pages = before; steps = steps; log = log; honest = honest; inLog = entries-log all all-encodable; ends = ends-log all all-encodable }
 
 -- ---- the pages stand at their moments
@@ -123,7 +121,7 @@ example = record { pages = before; steps = steps; log = log; honest = honest; in
 pub stood-ok : EachPage PageOk (page 7 (c ∷ []) ∷ page 5 (a ∷ []) ∷ [])
 stood-ok = (filled-ok 7 3 (lit< tt) (lit< tt), (filled-ok 5 1 (lit< tt) (lit< tt), tt))
 
-two : pagesIn stood ≡ 2
+pub two : pagesIn stood ≡ 2
 two = pages-in (page 7 (c ∷ []) ∷ page 5 (a ∷ []) ∷ []) stood-ok
 
 slot-0 : (k : ℕ) → getD (c ∷ []) k [] ≡ run (start before) (take 9 steps) .slot 0 k
@@ -153,47 +151,17 @@ stands = record { type = λ i l d. data-page i l; slots = λ i k l d. each i k l
 
 -- ---- files of the log
 
--- a log of a header, encoded entries and some bytes behind them, of which it is known how they read
-record Behind (file : List ℕ) (es : List Entry) (rest : List ℕ) (r : Reading) : Type 0 where
-  is : file ≡ header ++ (encodedAll es ++ rest)
-  head : headerFault (header ++ (encodedAll es ++ rest)) ≡ 0
-  reads : readAt (header ++ (encodedAll es ++ rest)) (32 + sizesOf es) ≡ r
-  never : (v : EntryView) → r ≡ Whole v → ⊥
-  fine : (at : ℕ) → endVerdict r at ≡ accepted
-
-header-32 : length header ≡ 32
-unfolding header bytesOf
-header-32 = refl
-
-module _ {file : List ℕ} {es : List Entry} {rest : List ℕ} {r : Reading} (b : Behind file es rest r) (fs : AllEncodable es) where
-  stop : (v : EntryView) → readAt (header ++ (encodedAll es ++ rest)) (32 + sizesOf es) ≡ Whole v → ⊥
-  stop v q = b .never v (sym (b .reads) ∙ q)
-
-  end-is : endOf file ≡ 32 + sizesOf es
-  end-is = ap endOf (b .is) ∙ end-encoded header rest header-32 es fs stop
-
-  ending-is : endingOf file ≡ r
-  ending-is = ap (readAt file) end-is ∙ ap (λ (s : List ℕ). readAt s (32 + sizesOf es)) (b .is) ∙ b .reads
-
-  says-file : Says file es
-  says-file =
-      record {
-        head = ap headerFault (b .is) ∙ b .head;
-        says = ap entries (b .is) ∙ entries-encoded header rest header-32 es fs stop;
-        end = ap (λ (x : Reading). endVerdict x (endOf file)) ending-is ∙ b .fine (endOf file);
-      }
-
 torn-behind : Behind torn whole (take 20 (encoded (begins 9 10))) Torn
 unfolding headerFault readAt allZero encodedAll encoded unsealed header bytesOf numberAt numberOf
-torn-behind = record { is = refl; head = refl; reads = refl; never = λ v q. not-torn q; fine = λ at. refl }
+torn-behind = record { is = refl; head = refl; reads = refl; never = λ v q. not-torn q }
 
 roomy-behind : Behind roomy whole (replicate 16 0) Unused
 unfolding headerFault readAt allZero encodedAll encoded unsealed header bytesOf numberAt numberOf
-roomy-behind = record { is = refl; head = refl; reads = refl; never = λ v q. not-unused q; fine = λ at. refl }
+roomy-behind = record { is = refl; head = refl; reads = refl; never = λ v q. not-unused q }
 
 completed-behind : Behind completed all (replicate 4 0) Unused
 unfolding headerFault readAt allZero encodedAll encoded unsealed header bytesOf numberAt numberOf
-completed-behind = record { is = refl; head = refl; reads = refl; never = λ v q. not-unused q; fine = λ at. refl }
+completed-behind = record { is = refl; head = refl; reads = refl; never = λ v q. not-unused q }
 
 pub end-torn : endOf torn ≡ 32 + sizesOf whole
 end-torn = end-is torn-behind encodable
@@ -202,14 +170,14 @@ pub ending-torn : endingOf torn ≡ Torn
 ending-torn = ending-is torn-behind encodable
 
 pub says : Says torn whole
-says = says-file torn-behind encodable
+says = says-file torn-behind encodable (λ at. refl)
 
 pub says-roomy : Says roomy whole
-says-roomy = says-file roomy-behind encodable
+says-roomy = says-file roomy-behind encodable (λ at. refl)
 
 -- the entry whose last three bytes are taken from the zeros is found whole
 pub says-completed : Says completed all
-says-completed = says-file completed-behind all-encodable
+says-completed = says-file completed-behind all-encodable (λ at. refl)
 
 -- ---- each file has what the pages felt
 

@@ -2,7 +2,10 @@ pub mod Parts
 pub mod Area
 pub mod Pages
 pub mod Rows
+pub mod Behind
 pub mod Example
 pub mod ShutOut
 pub mod Tail
 pub mod ExactEnd
+pub mod ThreeRuns
+pub mod FileLength

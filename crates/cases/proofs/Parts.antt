@@ -8,17 +8,17 @@ use native.Mathlib.Omega.{arith}
 use native.Mathlib.Decide.{decLe}
 use mathlib.Core.List.{List, [], _∷_, _++_}
 use lib.ListN.{length, getD, replicate, length-append, length-replicate}
-use lib.Dec.{eqb}
+use lib.Dec.{eqb, lit<}
 use borrow.Author.Tests.{eqb-true}
 use Rattle.endian.specs.Pick.{pick}
 use Rattle.endian.specs.Numbers.{Bytes, bytesOf, numberAt, numberOf}
 use Rattle.endian.proofs.Numbers.{length-bytesOf}
-use Rattle.endian.proofs.Bytes.{bytes-nil, bytes-cons, bytes-append, bytes-of, bytes-zeros}
-use Rattle.wal.specs.Entry.{Entry, Encodable, sizeOf, begin, commit, rollback, insert, delete, update}
+use Rattle.endian.proofs.Bytes.{bytes, bytes-nil, bytes-cons, bytes-append, bytes-of, bytes-zeros}
+use Rattle.wal.specs.Entry.{Entry, Encodable, AllEncodable, unsealed, encoded, encodedAll, header, sizeOf, begin, commit, rollback, insert, delete, update}
 use Rattle.rules.specs.Shape.{both, isChange, isOn, pageOf, slotOf, topOn}
 use Rattle.rules.specs.Mend.{topOf}
 use Rattle.rules.proofs.OrderLaws.{Every}
-use Rattle.cases.specs.Build.{entry, key, tuple, inserts, deletes, updates}
+use Rattle.cases.specs.Build.{entry, key, tuple, inserts, deletes, updates, logOf}
 
 pub tuple-bytes : (n x : ℕ) → x < 256 → Bytes (tuple n x)
 tuple-bytes n x h = bytes-append (bytes-zeros n) (bytes-cons h bytes-nil)
@@ -59,6 +59,27 @@ module _ (lsn t i k : ℕ) (hl : lsn < 2 ^ 64) (ht : t < 2 ^ 64) where
         old = bytes-append (key-bytes i k) b;
         new = bytes-append (key-bytes i k) c;
       }
+
+-- a log of them is bytes
+bytes-encoded : (e : Entry) → Encodable e → Bytes (encoded e)
+unfolding encoded unsealed
+bytes-encoded e k =
+    let x = k .key in
+    let y = k .old in
+    let z = k .new in
+    search bytes depth 20
+
+bytes-all : (es : List Entry) → AllEncodable es → Bytes (encodedAll es)
+unfolding encodedAll
+bytes-all [] h = bytes-nil
+bytes-all (e ∷ es) h = bytes-append (bytes-encoded e (h .0)) (bytes-all es (h .1))
+
+bytes-header : Bytes header
+unfolding header
+bytes-header = bytes-append (bytes-cons (lit< tt) (bytes-cons (lit< tt) (bytes-cons (lit< tt) (bytes-cons (lit< tt) bytes-nil)))) (search bytes)
+
+pub bytes-log : (es : List Entry) → AllEncodable es → Bytes (logOf es)
+bytes-log es h = bytes-append bytes-header (bytes-all es h)
 
 -- entries of the first n pages touch no other page
 pub on-pages : (n : ℕ) (es : List Entry) → Every (λ e. pageOf e < n) es → (i : ℕ) → 0 < topOf i es → i < n

@@ -2,3 +2,5 @@ pub mod Build
 pub mod Starred
 pub mod Example
 pub mod ExactEnd
+pub mod ThreeRuns
+pub mod FileLength

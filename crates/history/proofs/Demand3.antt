@@ -13,7 +13,7 @@ use Rattle.rules.proofs.Again.{zero-accepted, again}
 use Rattle.history.specs.Demand3.{History, Demand3}
 use Rattle.history.proofs.Exact.{exact}
 
-bytes-file : {L : List ℕ} (c z : ℕ) → Bytes L → Bytes (fileOf L c z)
+pub bytes-file : {L : List ℕ} (c z : ℕ) → Bytes L → Bytes (fileOf L c z)
 bytes-file c z b = bytes-append (bytes-take c b) (bytes-zeros z)
 
 pub demand3 : (h : History) → Demand3 h

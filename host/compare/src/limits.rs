@@ -130,6 +130,7 @@ pub(crate) fn limit(seed: u64) -> Option<Case> {
         aim: Some(aim),
         honest: None,
         earlier: input.earlier,
+        night: Vec::new(),
     })
 }
 

@@ -50,6 +50,7 @@ pub(crate) fn compare(subject: &mut Subject, seen: &mut Seen) {
     }
     if once.answer.number == 0 {
         repeated(subject, seen, given, &once);
+        night(subject, seen, given, &once);
     }
 }
 
@@ -238,4 +239,69 @@ fn repeated(subject: &mut Subject, seen: &mut Seen, given: Given, once: &Left) {
     seen.must(again == *once, || {
         "a repeated run ends otherwise".to_string()
     });
+}
+
+/// Up to ten runs, each on what the one before it left, stopped anywhere or refused: the last, the case's own, ends as it
+/// does alone.
+fn night(subject: &mut Subject, seen: &mut Seen, given: Given, once: &Left) {
+    let case = subject.case;
+    if case.night.is_empty() || !subject.light {
+        return;
+    }
+    let mut pages = given.pages.to_vec();
+    for earlier in &case.night {
+        let log = earlier.log(given.log);
+        let on_left = Given {
+            floor: earlier.floor,
+            pages: &pages,
+            log: &log,
+            ..given
+        };
+        let full = both(subject, seen, "in a night", on_left);
+        let left = mixture(&pages, &full.pages, |index| earlier.mended[index]);
+        if full.answer.number != 0 {
+            seen.event("night, run refused");
+        } else {
+            committed_stays(seen, &full, once);
+            if left != pages && left != full.pages {
+                seen.event("night, run stopped half-way");
+            }
+            if earlier.zeros > 0 {
+                seen.event("night, run with zeros behind its cut");
+            }
+        }
+        pages = left;
+    }
+    let over_left = Given {
+        pages: &pages,
+        ..given
+    };
+    let last = both(subject, seen, "at the end of a night", over_left);
+    seen.must(last == *once, || {
+        "the last run of a night ends otherwise than alone".to_string()
+    });
+    seen.event("night");
+    if case.night.len() == 9 {
+        seen.event("night of ten runs");
+    }
+}
+
+/// A record that says committed stands in the table of the later run as it is.
+fn committed_stays(seen: &mut Seen, earlier: &Left, later: &Left) {
+    let Answer {
+        committed,
+        rolled_back,
+        unended,
+        ..
+    } = earlier.answer;
+    let begun = (committed + rolled_back + unended) as usize;
+    let pairs = library::records(&earlier.table).zip(library::records(&later.table));
+    for (record, after) in pairs.take(begun) {
+        if record.outcome == 1 {
+            seen.event("night, committed record kept");
+            seen.must(record == after, || {
+                format!("{record:?} is reported as {after:?} later")
+            });
+        }
+    }
 }

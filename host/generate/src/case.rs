@@ -34,6 +34,9 @@ pub struct Case {
     pub honest: Option<Honest>,
     /// An earlier run on the same pages, broken off by a power failure.
     pub earlier: Option<Earlier>,
+    /// Up to nine runs one after the other, each broken off, on what the one
+    /// before it left; none has a shorter cut or file than the one before it.
+    pub night: Vec<Earlier>,
 }
 
 #[derive(Clone, Debug)]
@@ -169,19 +172,57 @@ fn with_earlier_run(rng: &mut Rng, case: Case) -> Case {
     } else {
         case.floor
     };
-    let mended = (0..case.pages.len() / PAGE_BYTES)
-        .map(|_| rng.one_in(2))
-        .collect();
     let earlier = Earlier {
         floor,
         cut,
         zeros,
-        mended,
+        mended: some_pages(rng, &case),
+    };
+    let night = if rng.one_in(3) {
+        night(rng, &case)
+    } else {
+        Vec::new()
     };
     Case {
         earlier: Some(earlier),
+        night,
         ..case
     }
+}
+
+/// Half of the pages.
+fn some_pages(rng: &mut Rng, case: &Case) -> Vec<bool> {
+    let pages = 0..case.pages.len() / PAGE_BYTES;
+    pages.map(|_| rng.one_in(2)).collect()
+}
+
+/// Runs under the case's own floor, of which none is shorter than the one before
+/// it, in its cut or in its file with the zeros; the case's own is the last.
+fn night(rng: &mut Rng, case: &Case) -> Vec<Earlier> {
+    let whole = case.log.len();
+    let (mut cut, mut length) = (LOG_HEADER_BYTES, LOG_HEADER_BYTES);
+    let mut runs = Vec::new();
+    for later in (1..=rng.size(1, 9)).rev() {
+        cut = match rng.below(4) {
+            0 => cut,
+            // Near the end of an entry, so that zeros may complete it.
+            1 => end_of_some_entry(rng, &case.log)
+                .saturating_sub(rng.size(0, 4))
+                .clamp(cut, whole),
+            _ => cut + rng.size(0, (whole - cut) / later),
+        };
+        length = match rng.below(3) {
+            0 => length.max(cut),
+            _ => length.max((cut + some_zeros(rng)).min(whole)),
+        };
+        runs.push(Earlier {
+            floor: case.floor,
+            cut,
+            zeros: length - cut,
+            mended: some_pages(rng, case),
+        });
+    }
+    runs
 }
 
 /// Where some whole entry of a log ends, or the first would start.
@@ -294,5 +335,6 @@ fn finish(rng: &mut Rng, seed: u64, kind: &'static str, draft: Draft) -> Case {
         aim: None,
         honest: None,
         earlier: None,
+        night: Vec::new(),
     }
 }

@@ -147,6 +147,24 @@ fn honest_histories_end_as_their_ledgers_say() {
     );
 }
 
+/// Chains of up to ten runs, with stopped and refused ones and zeros among them, end as their last run alone.
+#[test]
+fn nights_end_as_their_last_run_alone() {
+    let seen = seen();
+    assert_no_differences(seen);
+    assert_often(
+        seen,
+        &[
+            ("night", 1_000),
+            ("night of ten runs", 100),
+            ("night, run refused", 1_000),
+            ("night, run stopped half-way", 200),
+            ("night, run with zeros behind its cut", 1_000),
+            ("night, committed record kept", 1_000),
+        ],
+    );
+}
+
 /// Every call that is lent pages tells their faults apart, each at its place; a broken slot rule by its field or slot.
 #[test]
 fn page_faults_are_told_apart() {

@@ -92,6 +92,51 @@ fn repeated_runs_end_in_the_same_bytes() {
     assert!(compared > 1_500 && mixed > 200 && refused_first > 50 && zeros > 100);
 }
 
+/// Up to ten runs, each on what the one before it left: the last ends as it would have alone, and a record that says
+/// committed stays as it is.
+#[test]
+fn nights_end_as_the_last_run_alone() {
+    let (mut nights, mut ten, mut refused, mut stopped, mut zeros, mut kept) = (0, 0, 0, 0, 0, 0);
+    for case in small_cases(9_000) {
+        let once = run(&case);
+        if once.answer.number != 0 || case.night.is_empty() {
+            continue;
+        }
+        let (mut cut, mut length) = (0, 0);
+        let mut pages = case.pages.clone();
+        for earlier in &case.night {
+            let file = earlier.log(&case.log);
+            assert!(earlier.floor == case.floor && earlier.cut >= cut && file.len() >= length);
+            assert!(file.len() <= case.log.len(), "seed {}", case.seed);
+            (cut, length) = (earlier.cut, file.len());
+            let full = run_on(&case, case.floor, &pages, &file);
+            let left = mixture(&pages, &full.pages, |index| earlier.mended[index]);
+            if full.answer.number != 0 {
+                assert_refused_cleanly(&case, &pages, &full);
+                refused += 1;
+            } else {
+                stopped += u64::from(left != pages && left != full.pages);
+                zeros += u64::from(earlier.zeros > 0);
+                for (record, later) in full.table.iter().zip(&once.table) {
+                    if *record != MARK && record.outcome == 1 {
+                        assert_eq!(record, later, "seed {}", case.seed);
+                        kept += 1;
+                    }
+                }
+            }
+            pages = left;
+        }
+        let last = run_on(&case, case.floor, &pages, &case.log);
+        assert!(last == once, "seed {}", case.seed);
+        nights += 1;
+        ten += u64::from(case.night.len() == 9);
+    }
+    println!("nights {nights}, of ten runs {ten}, runs refused {refused}, stopped {stopped}");
+    println!("accepted with zeros {zeros}, committed records kept {kept}");
+    assert!(nights > 500 && ten > 50 && refused > 500 && stopped > 100);
+    assert!(zeros > 500 && kept > 500);
+}
+
 #[test]
 fn every_cut_of_some_histories() {
     let mut rng = Rng::new(77);

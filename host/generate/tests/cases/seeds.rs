@@ -6,7 +6,7 @@ use oracle::crc32c;
 /// A checksum over all that a case is made of.
 fn fingerprint(case: &Case) -> u32 {
     let numbers = format!(
-        "{} {} {} {} {} {} {} {} {:?} {:?}",
+        "{} {} {} {} {} {} {} {} {:?} {:?} {:?}",
         case.kind,
         case.magic,
         case.floor,
@@ -17,6 +17,7 @@ fn fingerprint(case: &Case) -> u32 {
         case.place,
         case.aim,
         case.earlier,
+        case.night,
     );
     let mut bytes = numbers.into_bytes();
     bytes.extend(&case.pages);
@@ -50,5 +51,5 @@ fn the_first_cases_stay_the_same() {
     let all: Vec<u8> = (0..300)
         .flat_map(|seed| fingerprint(&case(seed)).to_le_bytes())
         .collect();
-    assert_eq!(crc32c(&all), 2_232_159_353);
+    assert_eq!(crc32c(&all), 436_205_770);
 }

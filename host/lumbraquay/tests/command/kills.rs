@@ -39,14 +39,36 @@ fn large(sandbox: &Sandbox) -> Vec<u8> {
     pages
 }
 
-fn start(sandbox: &Sandbox) -> Child {
+const RECOVER: &str = "recover outage.pages outage.log --in-place";
+
+/// The same under a floor above every page's LSN, so that no cut of the log is too short for the pages.
+const RECOVER_UNDER_FLOOR: &str = "recover outage.pages outage.log --in-place --floor 1000";
+
+fn start(sandbox: &Sandbox, words: &str) -> Child {
     Command::new(BINARY)
-        .args(["recover", "outage.pages", "outage.log", "--in-place"])
+        .args(words.split_whitespace())
         .current_dir(&sandbox.path)
         .stdout(Stdio::piped())
         .stderr(Stdio::piped())
         .spawn()
         .unwrap()
+}
+
+/// Where the entries of a log end.
+fn entry_ends(log: &[u8]) -> Vec<usize> {
+    let mut ends = vec![32];
+    while let Some(bytes) = log.get(ends[ends.len() - 1]..).and_then(|it| it.get(..4)) {
+        let length = u32::from_le_bytes(bytes.try_into().unwrap());
+        ends.push(ends[ends.len() - 1] + length as usize);
+    }
+    ends
+}
+
+/// The first bytes of a log, and zeros behind them up to a length.
+fn file(log: &[u8], cut: usize, length: usize) -> Vec<u8> {
+    let mut file = log[..cut].to_vec();
+    file.resize(length, 0);
+    file
 }
 
 /// Everything as before a run.
@@ -87,9 +109,7 @@ impl Scene {
         let old = large(&sandbox);
         reset(&sandbox, &old);
         let began = Instant::now();
-        sandbox
-            .say("recover outage.pages outage.log --in-place")
-            .done();
+        sandbox.say(RECOVER).done();
         let time = began.elapsed();
         let new = sandbox.read("outage.pages");
         assert!(new != old);
@@ -109,7 +129,7 @@ impl Scene {
         let (when, other) = (moment(rng), moment(rng));
         let pages = self.sandbox.path.join("outage.pages");
         let companion = rng.below(3);
-        let child = start(&self.sandbox);
+        let child = start(&self.sandbox, RECOVER);
         let beside = thread::spawn(move || {
             thread::sleep(other);
             match companion {
@@ -131,10 +151,56 @@ impl Scene {
         unsafe { kill(child.id() as i32, signal) };
         let done = Done::of(child.wait_with_output().unwrap());
         let appended = beside.join().unwrap();
-        // Runs take longer or shorter with what else the machine does.
-        let factor = if done.status.is_none() { 1.04 } else { 0.92 };
-        self.time.set(time.mul_f64(factor));
+        self.took(&done);
         self.look(&done, appended, signal, tally);
+    }
+
+    /// Runs take longer or shorter with what else the machine does.
+    fn took(&self, done: &Done) {
+        let factor = if done.status.is_none() { 1.04 } else { 0.92 };
+        self.time.set(self.time.get().mul_f64(factor));
+    }
+
+    /// Runs on what the one before left, from logs that never get shorter, until ten of them were killed.
+    fn night(&self, rng: &mut Rng, log: &[u8], tally: &mut Tally) {
+        let ends = entry_ends(log);
+        let (mut at, mut cut, mut length) = (0, 0, 0);
+        let before = tally.killed;
+        for run in 0.. {
+            if tally.killed == before + 10 {
+                return;
+            }
+            assert!(run < 500, "{tally:?}");
+            at = (at + rng.index(3)).min(ends.len() - 1);
+            let torn = if rng.one_in(3) { rng.size(1, 40) } else { 0 };
+            cut = cut.max((ends[at] + torn).min(log.len()));
+            let zeros = if rng.one_in(3) { rng.size(1, 60) } else { 0 };
+            length = length.max(cut + zeros);
+            let lent = self.sandbox.read("outage.pages");
+            self.sandbox.write("outage.log", &file(log, cut, length));
+
+            let when = self.time.get().mul_f64(rng.below(1_000) as f64 / 1_000.0);
+            let child = start(&self.sandbox, RECOVER_UNDER_FLOOR);
+            thread::sleep(when);
+            unsafe { kill(child.id() as i32, 9) };
+            let done = Done::of(child.wait_with_output().unwrap());
+            let left = self.sandbox.read("outage.pages");
+            match done.status {
+                Some(0) => tally.done += 1,
+                Some(3) => {
+                    assert!(left == lent, "{done:#?}");
+                    tally.failed += 1;
+                    // A log that is refused is refused soon.
+                    continue;
+                }
+                None => {
+                    tally.killed += 1;
+                    tally.replaced += u64::from(left != lent);
+                }
+                _ => panic!("{done:#?}"),
+            }
+            self.took(&done);
+        }
     }
 
     /// Everything that has a name is whole, and what was written is somewhere.
@@ -200,10 +266,7 @@ impl Scene {
         }
         // The next run is not hindered.
         if !has_it {
-            let next = self
-                .sandbox
-                .say("recover outage.pages outage.log --in-place");
-            let next = next.ends(0);
+            let next = self.sandbox.say(RECOVER).ends(0);
             assert!(self.sandbox.read("outage.pages") == self.new, "{next:#?}");
             let left = self.sandbox.names();
             assert!(
@@ -238,6 +301,44 @@ fn requests_to_end_at_any_moment() {
         assert!(tally.done + tally.failed < 20 * kills(), "{tally:?}");
     }
     println!("requests to end: {tally:?}");
+}
+
+/// Ten kills in one night, among refused runs and runs that end; then the run from the longest log ends as it does alone.
+#[test]
+fn ten_kills_in_one_night() {
+    let scene = Scene::new();
+    let sandbox = &scene.sandbox;
+    // What is torn behind the last whole entry is none of the history's: zeros behind it would be damage.
+    let mut log = sandbox.read("outage.log");
+    log.truncate(
+        entry_ends(&log)
+            .into_iter()
+            .filter(|&end| end <= log.len())
+            .max()
+            .unwrap(),
+    );
+    let last = file(&log, log.len(), log.len() + 100);
+    let recovered = || {
+        sandbox.write("outage.log", &last);
+        sandbox.say(RECOVER_UNDER_FLOOR).ends(0);
+        sandbox.read("outage.pages")
+    };
+    reset(sandbox, &scene.old);
+    let alone = recovered();
+    assert!(alone != scene.old);
+
+    let mut rng = Rng::new(19);
+    let mut tally = Tally::default();
+    while tally.killed < kills() {
+        reset(sandbox, &scene.old);
+        scene.night(&mut rng, &log, &mut tally);
+        assert!(recovered() == alone, "{tally:?}");
+    }
+    println!("nights: {tally:?}");
+    assert!(
+        tally.failed > 0 && tally.done + tally.replaced > 0,
+        "{tally:?}"
+    );
 }
 
 /// On a small file system of our own that another process fills, where the machine lets us make one.
