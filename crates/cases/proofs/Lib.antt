@@ -9,3 +9,4 @@ pub mod Tail
 pub mod ExactEnd
 pub mod ThreeRuns
 pub mod FileLength
+pub mod OrderExample

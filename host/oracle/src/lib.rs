@@ -5,6 +5,7 @@ mod bytes;
 mod catalog;
 mod crc;
 mod examine;
+mod intake;
 mod listing;
 mod log;
 mod log_rules;
@@ -15,6 +16,7 @@ mod summary;
 
 pub use catalog::{table_find, table_read, table_read_older, table_write, Table};
 pub use crc::crc32c;
+pub use intake::{find_order, repeated_orders, FoundOrder, RepeatedOrders};
 pub use listing::{
     free_map, list_cancelled, list_visible, next_visible, verify, verify_from, FreeMap, Listing,
     Verdict, Visible,

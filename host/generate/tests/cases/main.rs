@@ -4,6 +4,7 @@ mod catalog;
 mod common;
 mod honest;
 mod honesty;
+mod intake;
 mod readers;
 mod refusals;
 mod seeds;

@@ -54,7 +54,12 @@ fn fits(lines: &[String], shown: &[String]) -> bool {
 fn run(name: &str, document: &str) -> Vec<String> {
     let sandbox = Sandbox::new();
     std::fs::create_dir(sandbox.path.join("samples")).unwrap();
-    for file in ["outage.pages", "outage.log", "catalog.pages"] {
+    for file in [
+        "outage.pages",
+        "outage.log",
+        "catalog.pages",
+        "orders.pages",
+    ] {
         let bundled = std::fs::read(repository().join("samples").join(file)).unwrap();
         sandbox.write(&format!("samples/{file}"), &bundled);
     }

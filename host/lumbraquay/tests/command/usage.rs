@@ -2,7 +2,7 @@
 
 use crate::sandbox::Sandbox;
 
-pub const COMMANDS: [&str; 15] = [
+pub const COMMANDS: [&str; 17] = [
     "demo",
     "recover",
     "verify",
@@ -12,6 +12,8 @@ pub const COMMANDS: [&str; 15] = [
     "row",
     "tables",
     "table",
+    "order",
+    "repeats",
     "freemap",
     "summary write",
     "summary show",

@@ -1,0 +1,15 @@
+pub mod Counting
+pub mod Parting
+pub mod Sorting
+pub mod Halves
+pub mod OrderRows
+pub mod Walking
+pub mod Searching
+pub mod Ranking
+pub mod Scanning
+pub mod Filling
+pub mod Pairing
+pub mod Marks
+pub mod Findings
+pub mod Repeats
+pub mod Recovered
