@@ -12,7 +12,7 @@
  * than out_len of them; what out has behind them stays. Later versions may add numbers at the end of an answer and
  * never move one, so a caller lends as many as it knows (LQ_RECOVER_NUMBERS and so on).
  * The first number is 0 for done or one of the refusals, the second the refusal's place; refused, all later ones are 0
- * and every other buffer keeps its bytes. (A step over the log has an order of its own.)
+ * and every other buffer keeps its bytes. (A step over the log or over a summary has an order of its own.)
  */
 #ifndef LUMBRAQUAY_H
 #define LUMBRAQUAY_H
@@ -38,10 +38,11 @@ uint32_t lq_version(void);
 
 /* The refusals: number, name and meaning of each. The first that holds in this order is given: 1, 2, 3; then entry by
  * entry 4 to 10 in turn; then page by page 11, 17, 18, 19 and 12 in turn; then 13, the earliest entry; then 14, the
- * lowest page; then 15 or 16. 34 to 38 are given of a catalog payload alone. The place of 4 to 10 and 13 is the entry's
- * offset in the log; of 11, 12, 14, 17 and 18 the page's index; of 19 the offset in the pages of what breaks the rule,
- * 16,384 x index + 10 for an item count over 4,080, + 32 for the free start, + 34 for the free end, + 64 + 4 x k for
- * slot k; else 0. */
+ * lowest page; then 15 or 16. 34 to 38 are given of a catalog payload alone, 27 to 33 of a summary. The place of 4 to 10
+ * and 13 is the entry's offset in the log; of 11, 12, 14, 17 and 18 the page's index; of 19 the offset in the pages of
+ * what breaks the rule, 16,384 x index + 10 for an item count over 4,080, + 32 for the free start, + 34 for the free
+ * end, + 64 + 4 x k for slot k; else 0. A summary is refused at its first number at fault, by the lowest of 28 to 32
+ * that fits it, then by 33; the place is the offset in the summary. */
 #define LQ_EACH_REFUSAL(X) \
     X(0, LQ_DONE, "done") \
     X(1, LQ_PAGE_AREA, "the page bytes are no multiple of 16,384, or there are over 4,096 pages") \
@@ -64,6 +65,14 @@ uint32_t lq_version(void);
     X(17, LQ_PAGE_ID, "a page has another id than its index") \
     X(18, LQ_PAGE_CHECKSUM, "a page's checksum is not that of its body") \
     X(19, LQ_PAGE_SLOTS, "a data page breaks a rule of slots: its item count, free start, free end or a slot is wrong") \
+    X(27, LQ_SUMMARY_AREA, "the lent area is too short for the summary") \
+    X(28, LQ_SUMMARY_ENDS_EARLY, "a summary ends before a number that it must have") \
+    X(29, LQ_SUMMARY_SPELLING, "a number of a summary has more groups than the fewest, or over 64 bits") \
+    X(30, LQ_SUMMARY_EDITION, "a summary is of an edition other than 1") \
+    X(31, LQ_SUMMARY_RANGE, "a row of a summary has a page of 4,096 or more, a slot of 4,080 or more or a length " \
+      "outside 24 to 16,316") \
+    X(32, LQ_SUMMARY_ORDER, "the rows of a summary do not strictly rise by page and slot") \
+    X(33, LQ_SUMMARY_LEFT_OVER, "bytes are left over behind the last row of a summary") \
     X(34, LQ_TABLE_ROW_ENDS_EARLY, "a catalog payload ends before its names do") \
     X(35, LQ_TABLE_ROW_FORM, "a catalog payload has 2 to 8 or more than 9 bytes after its names") \
     X(36, LQ_TABLE_ROW_LAYOUT, "a layout of a table other than 0 (heap) and 1 (clustered)") \
@@ -317,6 +326,61 @@ enum lq_table_write_answer {
 /* The first visible row, in the order of lq_list_visible, that lq_table_read reads and that has this table id; others
  * are passed over. Refuses as lq_verify does. The answer is that of lq_next_visible. */
 void lq_table_find(uint64_t magic, const uint8_t *pages, size_t len, uint32_t table, uint64_t *out, size_t out_len);
+
+/* Writes the summary of the visible rows of the pages, as lq_list_visible has them, with a last LSN that the caller
+ * knows. Every number is in groups of seven bits, lowest group first, the high bit set on all groups but the last, in
+ * the fewest groups: edition 1, last LSN, row count, then page, slot and tuple length of each row. Each last LSN and
+ * row list has one file only. Refuses as lq_verify does, then 27 exactly when the area is too short; its bytes behind
+ * the summary stay. A row takes at most 6 bytes, a page has at most 582 rows, and the numbers before them take at most
+ * 15 bytes. */
+void lq_summary_write(uint64_t magic, const uint8_t *pages, size_t len, uint64_t lsn, uint8_t *area, size_t area_len,
+                      uint64_t *out, size_t out_len);
+
+enum lq_summary_write_answer {
+    LQ_SUMMARY_WRITE_NUMBER = 0,
+    LQ_SUMMARY_WRITE_PLACE = 1,
+    LQ_SUMMARY_WRITE_LENGTH = 2 /* of the summary */
+};
+#define LQ_SUMMARY_WRITE_NUMBERS 3
+
+/* Judges a whole summary. Refuses 28 to 33. */
+void lq_summary_read(const uint8_t *file, size_t len, uint64_t *out, size_t out_len);
+
+enum lq_summary_read_answer {
+    LQ_SUMMARY_READ_NUMBER = 0,
+    LQ_SUMMARY_READ_PLACE = 1,
+    LQ_SUMMARY_READ_LSN = 2,
+    LQ_SUMMARY_READ_COUNT = 3, /* of rows */
+    LQ_SUMMARY_READ_FIRST = 4  /* where the first row stands, for lq_summary_step */
+};
+#define LQ_SUMMARY_READ_NUMBERS 5
+
+/* A row of a summary, counted from 0. Refuses as lq_summary_read does: each call judges the whole summary, so many rows
+ * are better gone through by lq_summary_step. */
+void lq_summary_row(const uint8_t *file, size_t len, uint64_t row, uint64_t *out, size_t out_len);
+
+/* Past the count all are 0. */
+enum lq_summary_row_answer {
+    LQ_SUMMARY_ROW_NUMBER = 0,
+    LQ_SUMMARY_ROW_PLACE = 1,
+    LQ_SUMMARY_ROW_PAGE = 2,
+    LQ_SUMMARY_ROW_SLOT = 3,
+    LQ_SUMMARY_ROW_LENGTH = 4 /* of the tuple: row header of 24 bytes, and payload */
+};
+#define LQ_SUMMARY_ROW_NUMBERS 5
+
+/* The row at a place of a summary, and the place after it. Refuses nothing and judges nothing: of a summary that
+ * lq_summary_read does not refuse, as many steps as its count, from its first row's place on, give its rows. Where one
+ * of the three numbers does not read, they are 0 and the next place is the given one. */
+void lq_summary_step(const uint8_t *file, size_t len, uint64_t place, uint64_t *out, size_t out_len);
+
+enum lq_summary_step_answer {
+    LQ_SUMMARY_STEP_PAGE = 0,
+    LQ_SUMMARY_STEP_SLOT = 1,
+    LQ_SUMMARY_STEP_LENGTH = 2,
+    LQ_SUMMARY_STEP_NEXT = 3
+};
+#define LQ_SUMMARY_STEP_NUMBERS 4
 
 #ifdef __cplusplus
 }

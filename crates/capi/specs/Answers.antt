@@ -17,12 +17,15 @@ use Rattle.page.specs.Fault.{verdictFrom, verdictOf}
 use Rattle.page.specs.Rows.{nextRow, numbersOf}
 use Rattle.page.specs.FreeMap.{mapVerdict, freeCount}
 use Rattle.refusals.specs.declared.Verdict.{Verdict}
+use Rattle.refusals.specs.declared.Written.{Written}
 use Rattle.page.specs.declared.NextRow.{NextRow}
 use Rattle.page.specs.declared.RowList.{RowList}
 use Rattle.page.specs.declared.NextRow.the-variants.{Refused, At, NoMore}
 use Rattle.catalog.specs.declared.TableRow.{TableRow}
-use Rattle.catalog.specs.declared.Written.{Written}
 use Rattle.rules.specs.Lent.{Lent}
+use Rattle.summary.specs.declared.Summary.{Summary}
+use Rattle.summary.specs.declared.NumberedRow.{NumberedRow}
+use Rattle.summary.specs.declared.SummaryStep.{SummaryStep}
 
 -- lq_version
 abbrev pub version : ℕ
@@ -110,7 +113,7 @@ abbrev pub tableNumbers : TableRow → List ℕ
 tableNumbers t =
     t .verdict .number ∷ t .verdict .place ∷ t .table ∷ t .root .0 ∷ t .schema .at ∷ t .schema .length ∷ t .name .at ∷ t .name .length ∷ t .layout ∷ t .version ∷ []
 
--- lq_table_write: number, place, length written
+-- lq_table_write, lq_summary_write: number, place, length written
 abbrev pub writtenNumbers : Written → List ℕ
 writtenNumbers w = w .verdict .number ∷ w .verdict .place ∷ w .length ∷ []
 
@@ -132,3 +135,17 @@ locatedNumbers l =
 
 unfoldable pub readRowNumbers : Lent → ℕ → ℕ → List ℕ
 readRowNumbers x page slot = locatedNumbers (locatedOf x page slot)
+
+-- ---- the row summary
+
+-- lq_summary_read: number, place, last LSN, count, place of the first row
+abbrev pub summaryNumbers : Summary → List ℕ
+summaryNumbers s = s .verdict .number ∷ s .verdict .place ∷ s .lsn .0 ∷ s .count ∷ s .first ∷ []
+
+-- lq_summary_row: number, place, page, slot, tuple length
+abbrev pub numberedNumbers : NumberedRow → List ℕ
+numberedNumbers n = n .verdict .number ∷ n .verdict .place ∷ n .row .page .0 ∷ n .row .slot ∷ n .row .length ∷ []
+
+-- lq_summary_step: page, slot, tuple length, place after them
+abbrev pub summaryStepNumbers : SummaryStep → List ℕ
+summaryStepNumbers s = s .row .page .0 ∷ s .row .slot ∷ s .row .length ∷ s .after ∷ []

@@ -10,7 +10,8 @@ ghost use Rattle.page.specs.Rows.{visibleRows, cancelledRows, numbersPerRow, ro
 ghost use Rattle.page.specs.FreeMap.{mapAfter};
 ghost use Rattle.catalog.specs.TableRows.{rowOf, olderRowOf, writeAnswer, areaAfter};
 ghost use Rattle.catalog.specs.Search.{tableFound};
-ghost use Rattle.capi.specs.Answers.{version, given, openNumbers, stepNumbers, kindForward, kindBackward, forwardNumbers, backwardNumbers, verifyNumbers, verifyFromNumbers, rowNumbers, nextVisibleNumbers, listNumbers, freeMapNumbers, tableNumbers, writtenNumbers, answerNumbers, locatedNumbers, readRowNumbers};
+ghost use Rattle.summary.specs.Summary.{numberedRow, stepOf, summaryOf, summaryWritten, summaryAfter};
+ghost use Rattle.capi.specs.Answers.{version, given, openNumbers, stepNumbers, kindForward, kindBackward, forwardNumbers, backwardNumbers, verifyNumbers, verifyFromNumbers, rowNumbers, nextVisibleNumbers, listNumbers, freeMapNumbers, tableNumbers, writtenNumbers, answerNumbers, locatedNumbers, readRowNumbers, summaryNumbers, numberedNumbers, summaryStepNumbers};
 ghost use Rattle.recovery.specs.Flat.{recoverFlat};
 use catalog::TableRow;
 use endian::Lsn;
@@ -19,6 +20,9 @@ use page::NextRow;
 use page::RowList;
 use rules::Answer;
 use rules::Located;
+use summary::NumberedRow;
+use summary::Summary;
+use summary::SummaryStep;
 use wal::Before;
 use wal::EntryView;
 use wal::Reading;
@@ -385,4 +389,76 @@ pub extern "C" fn lq_read_row(
 {
     let l = recovery::locate_row(magic, Lsn(floor), pages, log, PageNumber(page), slot);
     give(&located_numbers(l), out);
+}
+
+// Writes the summary of the visible rows: number, place and its length.
+#[no_mangle]
+pub extern "C" fn lq_summary_write(
+    magic: u64,
+    pages: &[u8],
+    lsn: u64,
+    area: &mut [u8],
+    out: &mut [u64],
+)
+    ensures { λ _. ⌜ now (out .exit) ≡ given (writtenNumbers (summaryWritten magic (now (pages .entry)) lsn (now (area .entry)))) (now (out .entry)) ⌝ }
+    ensures { λ _. ⌜ now (area .exit) ≡ summaryAfter magic (now (pages .entry)) lsn (now (area .entry)) ⌝ }
+{
+    let w = summary::write(magic, pages, Lsn(lsn), area);
+    let v = w.verdict;
+    give(&[v.number, v.place, w.length as u64], out);
+}
+
+// The numbers of a summary that is judged.
+fn summary_numbers(s: Summary) -> [u64; 5]
+    ensures { λ r. ⌜ r ≡ summaryNumbers s ⌝ }
+{
+    let v = s.verdict;
+    let last = s.lsn;
+    [v.number, v.place, last.0, s.count, s.first as u64]
+}
+
+// Judges a summary: number, place, last LSN, count, place of the first row.
+#[no_mangle]
+pub extern "C" fn lq_summary_read(file: &[u8], out: &mut [u64])
+    ensures { λ _. ⌜ now (out .exit) ≡ given (summaryNumbers (summaryOf (now (file .entry)))) (now (out .entry)) ⌝ }
+{
+    let s = summary::read(file);
+    give(&summary_numbers(s), out);
+}
+
+// The numbers of a row asked for by its number.
+fn numbered_numbers(n: NumberedRow) -> [u64; 5]
+    ensures { λ r. ⌜ r ≡ numberedNumbers n ⌝ }
+{
+    let v = n.verdict;
+    let row = n.row;
+    let page = row.page;
+    [v.number, v.place, page.0, row.slot, row.length]
+}
+
+// A row of a summary by its number: number, place, page, slot, tuple length.
+#[no_mangle]
+pub extern "C" fn lq_summary_row(file: &[u8], row: u64, out: &mut [u64])
+    ensures { λ _. ⌜ now (out .exit) ≡ given (numberedNumbers (numberedRow (now (file .entry)) row)) (now (out .entry)) ⌝ }
+{
+    let n = summary::row(file, row);
+    give(&numbered_numbers(n), out);
+}
+
+// The numbers of a row at a place.
+fn step_numbers(s: SummaryStep) -> [u64; 4]
+    ensures { λ r. ⌜ r ≡ summaryStepNumbers s ⌝ }
+{
+    let row = s.row;
+    let page = row.page;
+    [page.0, row.slot, row.length, s.after as u64]
+}
+
+// The row at a place of a summary: page, slot, tuple length and the place after it.
+#[no_mangle]
+pub extern "C" fn lq_summary_step(file: &[u8], place: u64, out: &mut [u64])
+    ensures { λ _. ⌜ now (out .exit) ≡ given (summaryStepNumbers (stepOf (now (file .entry)) place)) (now (out .entry)) ⌝ }
+{
+    let s = summary::step(file, place as usize);
+    give(&step_numbers(s), out);
 }

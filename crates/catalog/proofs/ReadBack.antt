@@ -16,7 +16,7 @@ use Rattle.endian.proofs.Numbers.{length-bytesOf, number-back}
 use Rattle.endian.proofs.Places.{part-append, number-same, number-append, number-byte}
 use Rattle.catalog.specs.TableRows.{tableOf, rootOf, schemaLength, nameLengthAt, nameLength, namesEnd, layoutOf, partAt, refusedRow, laid, rowBy, newestBy, rowOf, olderRowOf, nameBytes, rowBytes, rowLength, hasRoom, refusedWriting, writeAnswer, areaAfter}
 use Rattle.catalog.specs.declared.TableRow.{TableRow}
-use Rattle.catalog.specs.declared.Written.{Written}
+use Rattle.refusals.specs.declared.Written.{Written}
 use Rattle.catalog.proofs.Writing.{row-written}
 use Rattle.catalog.proofs.Forms.{laid-as, is-newest, newest-read}
 

@@ -16,7 +16,7 @@ use Rattle.endian.proofs.Numbers.{length-bytesOf}
 use Rattle.endian.proofs.Stores.{Stored, first, more, number}
 use Rattle.page.proofs.Picks.{never}
 use Rattle.catalog.specs.TableRows.{nameBytes, rowBytes, rowLength, hasRoom, refusedWriting, writeAnswer, areaAfter}
-use Rattle.catalog.specs.declared.Written.{Written}
+use Rattle.refusals.specs.declared.Written.{Written}
 
 -- ---- stores
 

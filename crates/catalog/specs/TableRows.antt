@@ -10,7 +10,7 @@ use Rattle.endian.specs.Pick.{pick}
 use Rattle.endian.specs.Numbers.{bytesOf, numberAt}
 use Rattle.catalog.specs.declared.Part.{Part}
 use Rattle.catalog.specs.declared.TableRow.{TableRow}
-use Rattle.catalog.specs.declared.Written.{Written}
+use Rattle.refusals.specs.declared.Written.{Written}
 
 -- ---- a payload: table id u32, root page u64, schema length u8 and bytes, name length u8 and bytes; a byte past the end counts as 0
 

@@ -19,6 +19,7 @@ use refusals::TABLE_ROW_LAYOUT;
 use refusals::TABLE_ROW_NEWER;
 use refusals::TABLE_ROW_NO_ROOM;
 use refusals::Verdict;
+use refusals::Written;
 
 mod search;
 
@@ -49,12 +50,6 @@ pub struct TableRow {
     pub name: Part,
     pub layout: u8,
     pub version: u64,
-}
-
-// What writing answers: a refusal and 0, or 0 and the length written.
-pub struct Written {
-    pub verdict: Verdict,
-    pub length: usize,
 }
 
 // The byte at a place; one past the end counts as 0.

@@ -4,9 +4,9 @@ ghost use mathlib.Core.Path.{_≡_};
 ghost use Prim.Native.Nat.{_≤_, _<_};
 ghost use lib.ListN.{length};
 use catalog::TableRow;
-use catalog::Written;
 use endian::PageNumber;
 use page::NextRow;
+use refusals::Written;
 
 const MAGIC: u64 = 0x0123_4567_89AB_CDEF;
 

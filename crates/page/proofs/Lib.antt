@@ -9,6 +9,7 @@ pub mod Listing
 pub mod ListedRows
 pub mod RowLists
 pub mod Searching
+pub mod RowBounds
 pub mod Visibility
 pub mod Mapping
 pub mod Picks

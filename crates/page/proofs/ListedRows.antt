@@ -14,7 +14,7 @@ use borrow.Author.Tests.{eq-eqb, eqb-true}
 use Rattle.endian.specs.Pick.{pick, consIf}
 use Rattle.endian.specs.Numbers.{part}
 use Rattle.endian.proofs.Places.{part-take, part-drop, drop-part}
-use Rattle.page.specs.Layout.{pageBytes, slotLimit, rowHead, dataType, pagesIn, pageAt, typeOf, countOf, freeEndOf, bodyOf, slotOff, slotLen, slotAt, tupleOffset, payloadOf}
+use Rattle.page.specs.Layout.{pageBytes, slotLimit, rowHead, longestTuple, dataType, pagesIn, pageAt, typeOf, countOf, freeEndOf, bodyOf, slotOff, slotLen, slotAt, tupleOffset, payloadOf}
 use Rattle.page.specs.Good.{Filled, DataGood}
 use Rattle.page.specs.Rows.{row, slotRows, pageRows, rowsFrom, rowsOf, rowPayload, Listable}
 use Rattle.page.specs.declared.Row.{Row}
@@ -111,10 +111,12 @@ module _ (shows : List ℕ → Bool) (P : Row → Type 0) where
 
 -- ---- the tuple of a row
 
--- where the tuple of a row stands in its page area
+-- where a row and its tuple stand in their page area, and how long the tuple may be
 pub record Standing (s : List ℕ) (r : Row) : Type 0 where
+  pub lent : r .page .0 < pagesIn s
   pub low : r .slot < slotLimit
   pub long : rowHead ≤ r .length
+  pub short : r .length ≤ longestTuple
   pub within : r .offset + r .length ≤ length s
   -- `&pages[a..e]` from behind its row header to its end
   pub payload : take (r .offset + r .length - (r .offset + rowHead)) (drop (r .offset + rowHead) s) ≡ rowPayload s r
@@ -152,8 +154,10 @@ module _ (shows : List ℕ → Bool) (none : shows [] ≡ false) (s : List ℕ) 
       let l : rowHead ≤ n = omega (arith, tuple-length, filled .long) in
       let e : o + n - (o + rowHead) ≡ n - rowHead = omega arith in
       record {
+        lent = h .lent;
         low = omega (arith, h .below, good .start, good .startEnd, good .end);
         long = l;
+        short = omega (arith, tuple-length, filled .above, filled .within, good .start, good .startEnd);
         within = omega (arith, tuple-length, filled .within, h .lent);
         payload = rw e (sym (drop-part rowHead o n s l) ∙ ap payloadOf tuple-here);
       }

@@ -106,6 +106,10 @@ module _ (i k : ℕ) where
   all-at [] u = refl
   all-at (r ∷ rs) u = rw (before-is i k r (u .0)) (ap (λ (x : List Row). r ∷ x) (all-at rs (lower (r .page .0) (suc (r .slot)) i k rs (down i k r (u .0)) (u .1))))
 
+-- from slot 0 of page 0 on there are all
+pub rows-all : (shows : List ℕ → Bool) (s : List ℕ) → rowsAt 0 0 (rowsOf shows s) ≡ rowsOf shows s
+rows-all shows s = all-at 0 0 (rowsOf shows s) (rising-pages shows s (pagesIn s) 0)
+
 abbrev headOr : Row → List Row → Row
 headOr d [] = d
 headOr d (r ∷ rs) = r

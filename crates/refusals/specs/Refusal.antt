@@ -77,6 +77,34 @@ pageChecksum = 18
 abbrev pub pageSlots : ℕ
 pageSlots = 19
 
+-- area too short for the summary
+abbrev pub summaryArea : ℕ
+summaryArea = 27
+
+-- summary ends before its numbers do
+abbrev pub summaryEndsEarly : ℕ
+summaryEndsEarly = 28
+
+-- number spelled in more groups than the fewest, or over 64 bits
+abbrev pub summarySpelling : ℕ
+summarySpelling = 29
+
+-- another edition of the summary
+abbrev pub summaryEdition : ℕ
+summaryEdition = 30
+
+-- page, slot or length of a row out of range
+abbrev pub summaryRange : ℕ
+summaryRange = 31
+
+-- rows that do not strictly rise
+abbrev pub summaryOrder : ℕ
+summaryOrder = 32
+
+-- bytes behind the summary's last row
+abbrev pub summaryLeftOver : ℕ
+summaryLeftOver = 33
+
 -- catalog payload that ends early
 abbrev pub tableRowEndsEarly : ℕ
 tableRowEndsEarly = 34

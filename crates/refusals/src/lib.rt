@@ -37,6 +37,20 @@ pub const PAGE_CHECKSUM: u64 = 18;
 
 pub const PAGE_SLOTS: u64 = 19;
 
+pub const SUMMARY_AREA: u64 = 27;
+
+pub const SUMMARY_ENDS_EARLY: u64 = 28;
+
+pub const SUMMARY_SPELLING: u64 = 29;
+
+pub const SUMMARY_EDITION: u64 = 30;
+
+pub const SUMMARY_RANGE: u64 = 31;
+
+pub const SUMMARY_ORDER: u64 = 32;
+
+pub const SUMMARY_LEFT_OVER: u64 = 33;
+
 pub const TABLE_ROW_ENDS_EARLY: u64 = 34;
 
 pub const TABLE_ROW_FORM: u64 = 35;
@@ -51,4 +65,10 @@ pub const TABLE_ROW_NEWER: u64 = 38;
 pub struct Verdict {
     pub number: u64,
     pub place: u64,
+}
+
+// What a writer answers: a refusal and 0, or 0 and the length written.
+pub struct Written {
+    pub verdict: Verdict,
+    pub length: usize,
 }

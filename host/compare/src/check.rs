@@ -4,7 +4,7 @@ use generate::{Case, Rng, DATA};
 use oracle::PAGE_BYTES;
 
 use crate::seen::Seen;
-use crate::{catalog, log, pages, recovery, rows};
+use crate::{catalog, log, pages, recovery, rows, summary};
 
 /// A case of more bytes, or of more pairs of slots that might share a byte, gets fewer calls.
 const LIGHT_BYTES: usize = 2_000_000;
@@ -37,6 +37,8 @@ pub fn check(case: &Case, seen: &mut Seen) {
     pages::compare(&mut subject, seen);
     rows::compare(&mut subject, seen);
     recovery::compare(&mut subject, seen);
+    // Last, so that the calls above choose as they did before there were summaries.
+    summary::compare(&mut subject, seen);
 }
 
 /// The pairs of slots on each Data page, all together.

@@ -10,6 +10,7 @@ mod pages;
 mod recovery;
 mod rows;
 mod seen;
+mod summary;
 mod sweep;
 mod twin;
 

@@ -125,7 +125,11 @@ impl Seen {
     /// How often any call gave a refusal's number.
     pub fn reached(&self, number: u64) -> u64 {
         let refusing = self.answers.iter().filter(|((entry, n), _)| {
-            *n == number && !matches!(*entry, "log_forward" | "log_backward" | "crc32c")
+            *n == number
+                && !matches!(
+                    *entry,
+                    "log_forward" | "log_backward" | "summary_step" | "crc32c"
+                )
         });
         refusing.map(|(_, times)| times).sum()
     }

@@ -92,6 +92,35 @@ pub fn written(of: oracle::Written) -> library::Written {
     }
 }
 
+pub fn summary(of: oracle::Summary) -> library::Summary {
+    library::Summary {
+        number: of.number,
+        place: of.place,
+        lsn: of.lsn,
+        count: of.count,
+        first: of.first,
+    }
+}
+
+pub fn summary_row(of: oracle::SummaryRow) -> library::SummaryRow {
+    library::SummaryRow {
+        number: of.number,
+        place: of.place,
+        page: of.page,
+        slot: of.slot,
+        length: of.length,
+    }
+}
+
+pub fn summary_step(of: oracle::SummaryStep) -> library::SummaryStep {
+    library::SummaryStep {
+        page: of.page,
+        slot: of.slot,
+        length: of.length,
+        next: of.next,
+    }
+}
+
 /// A step that found an entry, with the place it leads to.
 fn entry(next: u64, of: oracle::EntryFields) -> library::Step {
     library::Step {

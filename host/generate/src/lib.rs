@@ -16,6 +16,7 @@ mod mutate_page;
 mod page;
 mod rng;
 mod style;
+mod summary;
 mod wild;
 
 pub use case::{case, mutated_by, Case, Earlier, Honest};
@@ -30,4 +31,5 @@ pub use mutate::{mutations, Aim, Mutation};
 pub use page::{live_tuple, plain_page, slots_of, DataPage, Slots, DATA, FREE};
 pub use rng::Rng;
 pub use style::Style;
+pub use summary::{long_summary, summary_file, summary_kinds, SummaryFile};
 pub use wild::{corrupt, random_bytes, wild};

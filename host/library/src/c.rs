@@ -132,4 +132,21 @@ extern "C" {
         out: *mut u64,
         out_len: usize,
     );
+
+    pub fn lq_summary_write(
+        magic: u64,
+        pages: *const u8,
+        len: usize,
+        lsn: u64,
+        area: *mut u8,
+        area_len: usize,
+        out: *mut u64,
+        out_len: usize,
+    );
+
+    pub fn lq_summary_read(file: *const u8, len: usize, out: *mut u64, out_len: usize);
+
+    pub fn lq_summary_row(file: *const u8, len: usize, row: u64, out: *mut u64, out_len: usize);
+
+    pub fn lq_summary_step(file: *const u8, len: usize, place: u64, out: *mut u64, out_len: usize);
 }

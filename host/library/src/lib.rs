@@ -131,6 +131,21 @@ numbers! {
 }
 
 numbers! {
+    /// What a summary says of itself, and where its first row stands.
+    Summary: 5 { number, place, lsn, count, first }
+}
+
+numbers! {
+    /// A row of a summary; past the count its three numbers are 0.
+    SummaryRow: 5 { number, place, page, slot, length }
+}
+
+numbers! {
+    /// The row at a place of a summary and the place after it: zeros and the same place where a number does not read.
+    SummaryStep: 4 { page, slot, length, next }
+}
+
+numbers! {
     /// What a step over the log finds. Where that is no entry, all after `next` are 0, and `next` is the place it
     /// started from.
     Step: 11 {
@@ -149,7 +164,7 @@ macro_rules! verdicts {
     };
 }
 
-verdicts! { Answer Row Visible Listing FreeMap Table Written }
+verdicts! { Answer Row Visible Listing FreeMap Table Written Summary SummaryRow }
 
 impl Row {
     /// The payload as a part of what was lent.
@@ -380,5 +395,57 @@ pub fn table_write(
 pub fn table_find(magic: u64, pages: &[u8], table: u32) -> Visible {
     filled(|out, out_len| unsafe {
         c::lq_table_find(magic, pages.as_ptr(), pages.len(), table, out, out_len)
+    })
+}
+
+/// The most bytes that the summary of so many pages takes: 15 before the rows, and six for each of at most 582 rows of a
+/// page.
+pub fn summary_room(pages: usize) -> usize {
+    15 + 6 * 582 * pages
+}
+
+/// Writes the visible rows, with a last LSN, as a summary. Refuses as `verify` does, then 27; the area then keeps what it
+/// holds.
+pub fn summary_write(magic: u64, pages: &[u8], lsn: u64, area: &mut [u8]) -> Written {
+    filled(|out, out_len| unsafe {
+        c::lq_summary_write(
+            magic,
+            pages.as_ptr(),
+            pages.len(),
+            lsn,
+            area.as_mut_ptr(),
+            area.len(),
+            out,
+            out_len,
+        )
+    })
+}
+
+/// Judges a whole summary. Refuses 28 to 33.
+pub fn summary_read(file: &[u8]) -> Summary {
+    filled(|out, out_len| unsafe { c::lq_summary_read(file.as_ptr(), file.len(), out, out_len) })
+}
+
+/// A row of a summary by its number from 0. Refuses as `summary_read` does: each call judges the whole file.
+pub fn summary_row(file: &[u8], row: u64) -> SummaryRow {
+    filled(|out, out_len| unsafe {
+        c::lq_summary_row(file.as_ptr(), file.len(), row, out, out_len)
+    })
+}
+
+/// The row at a place of a summary, whatever stands before it.
+pub fn summary_step(file: &[u8], place: u64) -> SummaryStep {
+    filled(|out, out_len| unsafe {
+        c::lq_summary_step(file.as_ptr(), file.len(), place, out, out_len)
+    })
+}
+
+/// The rows of a summary that is not refused, one after another.
+pub fn summary_rows(file: &[u8], read: Summary) -> impl Iterator<Item = SummaryStep> + '_ {
+    let mut place = read.first;
+    (0..read.count).map(move |_| {
+        let step = summary_step(file, place);
+        place = step.next;
+        step
     })
 }

@@ -12,6 +12,8 @@ pub enum Place {
     PageIndex,
     /// Bytes from the pages' start, to a field of a page's header or to a slot.
     PageOffset,
+    /// Bytes from a summary's start, to a number or to what is left over.
+    SummaryOffset,
 }
 
 #[derive(Clone, Copy, Debug)]
@@ -60,6 +62,13 @@ refusals! {
     17 PAGE_ID PageIndex "a page has another id than its index";
     18 PAGE_CHECKSUM PageIndex "a page's checksum is not that of its body";
     19 PAGE_SLOTS PageOffset "a data page breaks a rule of slots: its item count, free start, free end or a slot is wrong";
+    27 SUMMARY_AREA Nothing "the lent area is too short for the summary";
+    28 SUMMARY_ENDS_EARLY SummaryOffset "a summary ends before a number that it must have";
+    29 SUMMARY_SPELLING SummaryOffset "a number of a summary has more groups than the fewest, or over 64 bits";
+    30 SUMMARY_EDITION SummaryOffset "a summary is of an edition other than 1";
+    31 SUMMARY_RANGE SummaryOffset "a row of a summary has a page of 4,096 or more, a slot of 4,080 or more or a length outside 24 to 16,316";
+    32 SUMMARY_ORDER SummaryOffset "the rows of a summary do not strictly rise by page and slot";
+    33 SUMMARY_LEFT_OVER SummaryOffset "bytes are left over behind the last row of a summary";
     34 TABLE_ROW_ENDS_EARLY Nothing "a catalog payload ends before its names do";
     35 TABLE_ROW_FORM Nothing "a catalog payload has 2 to 8 or more than 9 bytes after its names";
     36 TABLE_ROW_LAYOUT Nothing "a layout of a table other than 0 (heap) and 1 (clustered)";

@@ -39,6 +39,7 @@ pub fn refusal_fields(verdict: Verdict, read: Read) -> Vec<(&'static str, Json)>
         Place::LogOffset => "offset in the log",
         Place::PageIndex => "page index",
         Place::PageOffset => "offset in the pages",
+        Place::SummaryOffset => "offset in the summary",
     };
     let mut fields = vec![("place_is", place_is.into())];
     fields.extend(fault::fields(verdict));
@@ -69,6 +70,12 @@ pub fn text(verdict: Verdict, read: Read) -> String {
             fault::part(place)
         ),
         (Place::PageOffset, None, _) => format!(" at {}", fault::part(place)),
+        (Place::SummaryOffset, _, _) => {
+            let of = read.summary.map_or(String::new(), |summary| {
+                format!(" of {}", summary.path.display())
+            });
+            format!(" at offset {place}{of}")
+        }
     };
     let mut text = format!("refused: {number} {name}{place}\n");
     text += &format!("  meaning:    {}\n", meaning(number));
@@ -167,6 +174,12 @@ fn general(number: u64) -> &'static str {
         refusal::PAGE_ID => "another page stands here: see that the file was copied whole and in order, or put the page back from a backup or the double-write file",
         refusal::PAGE_CHECKSUM => "the page is torn or damaged: put it back from a backup or the double-write file",
         refusal::PAGE_SLOTS => "the body's checksum is right, so the page was written like this or its header, which has no checksum, is damaged: put it back from a backup or the double-write file",
+        refusal::SUMMARY_AREA => "lend a longer area",
+        refusal::SUMMARY_ENDS_EARLY => "see that this file is a list that `summary write` wrote and was copied whole, or write it anew",
+        refusal::SUMMARY_SPELLING => "see that this file is a list that `summary write` wrote; if it is, it is damaged: write it anew",
+        refusal::SUMMARY_EDITION => "see that this file is a list that `summary write` wrote; one of a later edition needs a later version of this command",
+        refusal::SUMMARY_RANGE | refusal::SUMMARY_ORDER => "see that this file is a list that `summary write` wrote; if it is, it is damaged: write it anew",
+        refusal::SUMMARY_LEFT_OVER => "see that this file is one list and not two joined, or write it anew",
         refusal::TABLE_ROW_ENDS_EARLY | refusal::TABLE_ROW_FORM | refusal::TABLE_ROW_LAYOUT => "see that these bytes are a row of the catalog's tables, whole",
         refusal::TABLE_ROW_NO_ROOM => "lend a longer area, or shorten the name",
         refusal::TABLE_ROW_NEWER => "use a reader that knows the newest form",

@@ -28,6 +28,8 @@ pub struct Choice {
     pub name: &'static str,
     /// What its value is called, if it takes one.
     pub value: Option<&'static str>,
+    /// Whether it has to be given.
+    pub needed: bool,
     pub about: &'static str,
 }
 
@@ -36,6 +38,7 @@ impl Choice {
         Choice {
             name,
             value: None,
+            needed: false,
             about,
         }
     }
@@ -44,6 +47,17 @@ impl Choice {
         Choice {
             name,
             value: Some(value),
+            needed: false,
+            about,
+        }
+    }
+
+    /// One that has to be given.
+    pub const fn needed(name: &'static str, value: &'static str, about: &'static str) -> Choice {
+        Choice {
+            name,
+            value: Some(value),
+            needed: true,
             about,
         }
     }
@@ -86,6 +100,7 @@ impl Command {
         }
         for choice in self.options {
             match choice.value {
+                Some(value) if choice.needed => text += &format!(" {} {value}", choice.name),
                 Some(value) => text += &format!(" [{} {value}]", choice.name),
                 None => text += &format!(" [{}]", choice.name),
             }
@@ -196,12 +211,16 @@ impl Parsed {
         if self.standard_count() > 1 {
             return Err(self.wrong("only one file can be standard input".to_string()));
         }
-        match self.given.get(takes.len()) {
+        if let Some(word) = self.given.get(takes.len()) {
+            let word = word.to_string_lossy();
+            return Err(self.wrong(format!("'{word}' is one argument too many")));
+        }
+        let mut needed = self.command.options.iter().filter(|choice| choice.needed);
+        match needed.find(|choice| !self.flag(choice.name)) {
             None => Ok(()),
-            Some(word) => Err(self.wrong(format!(
-                "'{}' is one argument too many",
-                word.to_string_lossy()
-            ))),
+            Some(choice) => {
+                Err(self.wrong(format!("{} is missing: {}", choice.name, choice.about)))
+            }
         }
     }
 
@@ -228,6 +247,7 @@ impl Parsed {
             match *name {
                 "PAGES" => fields.push(("pages_file", given)),
                 "LOG" => fields.push(("log_file", given)),
+                "FILE" => fields.push(("summary_file", given)),
                 _ => (),
             }
         }
@@ -260,6 +280,18 @@ impl Parsed {
 
     pub fn chosen_path(&self, name: &str) -> Option<&Path> {
         self.chosen.get(name).map(Path::new)
+    }
+
+    /// The path of an option that has to be given.
+    pub fn needed_path(&self, name: &str) -> Result<&Path, Failure> {
+        self.chosen_path(name)
+            .ok_or_else(|| self.wrong(format!("{name} is missing")))
+    }
+
+    /// The number of an option that has to be given.
+    pub fn needed_number(&self, name: &str) -> Result<u64, Failure> {
+        self.chosen_number(name)?
+            .ok_or_else(|| self.wrong(format!("{name} is missing")))
     }
 
     pub fn chosen_number(&self, name: &str) -> Result<Option<u64>, Failure> {

@@ -7,6 +7,7 @@ use library::{refusal, Step, Verdict, PAGE_BYTES, STEP_ENTRY};
 use crate::fault;
 use crate::input::{Log, Pages, Read};
 use crate::show;
+use crate::summary;
 use crate::walk;
 
 /// What a page can hold beside its header.
@@ -35,6 +36,9 @@ pub fn found(verdict: Verdict, read: Read) -> Option<String> {
         refusal::NO_DATA_PAGE => no_data_page(read, place),
         refusal::PAGE_OVERFULL => needed(read.pages?, read.log?, place),
         refusal::NO_SUCH_PAGE => Some(there(read.pages?)),
+        refusal::SUMMARY_ENDS_EARLY..=refusal::SUMMARY_LEFT_OVER => {
+            Some(summary::found(read.summary?, number, place))
+        }
         _ => None,
     }
 }

@@ -2,13 +2,14 @@
 
 use std::path::{Path, PathBuf};
 
-use library::{Verdict, LOG_HEAD_BYTES, LOG_LIMIT_BYTES, PAGE_BYTES, PAGE_LIMIT};
+use library::{SummaryStep, Verdict, LOG_HEAD_BYTES, LOG_LIMIT_BYTES, PAGE_BYTES, PAGE_LIMIT};
 
 use crate::args::Parsed;
 use crate::failure::Failure;
 use crate::files::{self, Seen, Whole};
 use crate::held::Held;
 use crate::json::Json;
+use crate::show;
 
 /// A page file and its magic.
 pub struct Pages {
@@ -24,15 +25,18 @@ pub struct Pages {
 impl Pages {
     /// Reads the page file that is the first thing a command takes.
     pub fn read(parsed: &Parsed) -> Result<Pages, Failure> {
-        Pages::of(
-            parsed,
-            files::read(parsed.path(0), PAGE_BYTES * PAGE_LIMIT)?,
-        )
+        Pages::read_at(parsed, 0)
+    }
+
+    /// The same where a command takes it at an index.
+    pub fn read_at(parsed: &Parsed, index: usize) -> Result<Pages, Failure> {
+        let path = parsed.path(index);
+        Pages::of(parsed, path, files::read(path, PAGE_BYTES * PAGE_LIMIT)?)
     }
 
     /// The same of a page file that is held to be replaced.
     pub fn read_held(parsed: &Parsed, held: &Held) -> Result<Pages, Failure> {
-        Pages::of(parsed, held.read(PAGE_BYTES * PAGE_LIMIT)?)
+        Pages::of(parsed, parsed.path(0), held.read(PAGE_BYTES * PAGE_LIMIT)?)
     }
 
     /// Reads the page file that an option names, if it is given; its magic is that of its page 0.
@@ -47,9 +51,9 @@ impl Pages {
         Pages::with_magic(path, whole, None).map(Some)
     }
 
-    fn of(parsed: &Parsed, whole: Whole) -> Result<Pages, Failure> {
+    fn of(parsed: &Parsed, path: &Path, whole: Whole) -> Result<Pages, Failure> {
         let given = parsed.chosen_number("--magic")?;
-        let pages = Pages::with_magic(parsed.path(0), whole, given)?;
+        let pages = Pages::with_magic(path, whole, given)?;
         parsed.magic.set(Some(pages.magic));
         Ok(pages)
     }
@@ -191,11 +195,62 @@ impl Log {
     }
 }
 
+/// A summary of visible rows, as the library judges it.
+pub struct Summary {
+    pub path: PathBuf,
+    pub bytes: Vec<u8>,
+    /// The file's length, of which no more bytes are read than the longest summary has and one.
+    pub length: u64,
+    pub read: library::Summary,
+}
+
+/// The longest summary that is not refused: 15 bytes before the rows, and six for each slot that a row can name.
+const SUMMARY_LIMIT_BYTES: usize = 15 + 6 * PAGE_LIMIT * 4_080;
+
+impl Summary {
+    /// Reads the summary that is the first thing a command takes.
+    pub fn read(parsed: &Parsed) -> Result<Summary, Failure> {
+        let path = parsed.path(0);
+        let Whole { bytes, length, .. } = files::read(path, SUMMARY_LIMIT_BYTES)?;
+        Ok(Summary {
+            path: path.to_path_buf(),
+            read: library::summary_read(&bytes),
+            bytes,
+            length,
+        })
+    }
+
+    /// The rows, of a summary that is not refused.
+    pub fn rows(&self) -> impl Iterator<Item = SummaryStep> + '_ {
+        library::summary_rows(&self.bytes, self.read)
+    }
+
+    pub fn line(&self) -> String {
+        format!(
+            "{}: {} bytes, last LSN {}, {}",
+            self.path.display(),
+            self.length,
+            self.read.lsn,
+            show::count(self.read.count, "row", "rows")
+        )
+    }
+
+    pub fn fields(&self) -> Vec<(&'static str, Json)> {
+        vec![
+            ("summary_file", Json::text(self.path.display())),
+            ("summary_bytes", self.length.into()),
+            ("lsn", self.read.lsn.into()),
+            ("count", self.read.count.into()),
+        ]
+    }
+}
+
 /// What a command has read, for the words of a refusal.
-#[derive(Clone, Copy)]
+#[derive(Clone, Copy, Default)]
 pub struct Read<'a> {
     pub pages: Option<&'a Pages>,
     pub log: Option<&'a Log>,
+    pub summary: Option<&'a Summary>,
     pub floor: u64,
     /// Whether every bad page is already told.
     pub all_listed: bool,
@@ -205,18 +260,21 @@ impl<'a> Read<'a> {
     pub fn pages(pages: &'a Pages) -> Read<'a> {
         Read {
             pages: Some(pages),
-            log: None,
-            floor: 0,
-            all_listed: false,
+            ..Read::default()
         }
     }
 
     pub fn log(log: &'a Log) -> Read<'a> {
         Read {
-            pages: None,
             log: Some(log),
-            floor: 0,
-            all_listed: false,
+            ..Read::default()
+        }
+    }
+
+    pub fn summary(summary: &'a Summary) -> Read<'a> {
+        Read {
+            summary: Some(summary),
+            ..Read::default()
         }
     }
 
@@ -225,7 +283,7 @@ impl<'a> Read<'a> {
             pages: Some(pages),
             log: Some(log),
             floor,
-            all_listed: false,
+            ..Read::default()
         }
     }
 }
@@ -246,6 +304,7 @@ impl Read<'_> {
     pub fn fields(&self) -> Vec<(&'static str, Json)> {
         let mut fields = self.pages.map_or(Vec::new(), Pages::fields);
         fields.extend(self.log.map_or(Vec::new(), Log::fields));
+        fields.extend(self.summary.map_or(Vec::new(), Summary::fields));
         fields
     }
 }

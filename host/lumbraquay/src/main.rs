@@ -24,6 +24,7 @@ mod report;
 mod show;
 mod slow;
 mod stats;
+mod summary;
 mod sys;
 mod tuple;
 mod walk;
@@ -137,9 +138,18 @@ fn run(words: &[OsString], output: &mut Output, told: &mut Told) -> Result<(), F
     match first.to_str() {
         Some("--help" | "-h") => output.text(&overview()),
         Some("--version" | "-V") => output.line(format_args!("lumbraquay {VERSION}")),
-        Some("help") => help(rest, output),
-        name => {
-            let command = find(name, first)?;
+        Some("help") => match rest {
+            [] => output.text(&overview()),
+            rest => output.text(&find(rest)?.help()),
+        },
+        _ => {
+            let (command, rest) = match find(words)? {
+                Found::Group(group) if is_help(rest.first()) => {
+                    return output.text(&Found::Group(group).help());
+                }
+                Found::Group(group) => return Err(wrong_action(group, rest.first())),
+                Found::Command(command, rest) => (command, rest),
+            };
             told.command = command.name.into();
             let mut parsed = Parsed::of(command);
             let read = parsed.read(rest);
@@ -163,22 +173,82 @@ fn run(words: &[OsString], output: &mut Output, told: &mut Told) -> Result<(), F
     }
 }
 
-fn find(name: Option<&str>, word: &OsString) -> Result<&'static Command, Failure> {
-    let mut all = commands::ALL.iter();
-    all.find(|command| Some(command.name) == name)
-        .ok_or_else(|| {
-            let word = word.to_string_lossy();
-            Failure::Usage(format!(
-                "'{word}' is no command; `lumbraquay --help` lists them"
-            ))
-        })
+/// What the first words name.
+enum Found<'a> {
+    /// A command, and the words behind its name.
+    Command(&'static Command, &'a [OsString]),
+    /// The first word of several commands.
+    Group(&'static str),
 }
 
-fn help(words: &[OsString], output: &mut Output) -> Result<(), Failure> {
-    match words.first() {
-        None => output.text(&overview()),
-        Some(word) => output.text(&find(word.to_str(), word)?.help()),
+impl Found<'_> {
+    fn help(&self) -> String {
+        match self {
+            Found::Command(command, _) => command.help(),
+            Found::Group(group) => group_help(group),
+        }
     }
+}
+
+fn find(words: &[OsString]) -> Result<Found<'_>, Failure> {
+    let named = |count: usize| {
+        let name = words.get(..count)?.join(" ".as_ref());
+        let mut all = commands::ALL.iter();
+        let command = all.find(|command| name == command.name)?;
+        Some(Found::Command(command, &words[count..]))
+    };
+    let group = || {
+        let mut groups = commands::GROUPS.iter();
+        let (group, _) = groups
+            .find(|(group, _)| Some(group.as_ref()) == words.first().map(OsString::as_os_str))?;
+        Some(Found::Group(group))
+    };
+    named(1).or_else(|| named(2)).or_else(group).ok_or_else(|| {
+        let word = words
+            .first()
+            .map_or("".into(), |word| word.to_string_lossy());
+        Failure::Usage(format!(
+            "'{word}' is no command; `lumbraquay --help` lists them"
+        ))
+    })
+}
+
+fn is_help(word: Option<&OsString>) -> bool {
+    word.is_some_and(|word| word == "--help" || word == "-h")
+}
+
+/// The commands of a group, with the second words of their names.
+fn actions(group: &str) -> impl Iterator<Item = (&'static str, &'static Command)> + '_ {
+    commands::ALL.iter().filter_map(move |command| {
+        let (first, second) = command.name.split_once(' ')?;
+        (first == group).then_some((second, command))
+    })
+}
+
+fn wrong_action(group: &str, word: Option<&OsString>) -> Failure {
+    let words: Vec<&str> = actions(group).map(|(action, _)| action).collect();
+    let words = words.join(", ");
+    Failure::Usage(match word {
+        None => format!("{group} needs one of {words} behind it"),
+        Some(word) => format!("'{}' is none of {words}", word.to_string_lossy()),
+    })
+}
+
+fn group_about(group: &str) -> &'static str {
+    let mut groups = commands::GROUPS.iter();
+    let found = groups.find(|(name, _)| *name == group);
+    found.map_or("", |(_, about)| about)
+}
+
+fn group_help(group: &str) -> String {
+    let mut text = format!(
+        "{}\n\nUse: lumbraquay {group} ACTION [ARGUMENTS], where ACTION is\n",
+        group_about(group)
+    );
+    for (action, command) in actions(group) {
+        text += &format!("  {action:<9} {}\n", command.about);
+    }
+    text + &format!("\n`lumbraquay {group} ACTION --help` tells more.\n")
 }
 
 fn overview() -> String {
@@ -187,7 +257,13 @@ fn overview() -> String {
          Use: lumbraquay COMMAND [ARGUMENTS], where COMMAND is\n",
     );
     for command in commands::ALL {
-        text += &format!("  {:<9} {}\n", command.name, command.about);
+        match command.name.split_once(' ') {
+            None => text += &format!("  {:<9} {}\n", command.name, command.about),
+            Some((group, action)) if actions(group).next().is_some_and(|it| it.0 == action) => {
+                text += &format!("  {group:<9} {}\n", group_about(group));
+            }
+            Some(_) => (),
+        }
     }
     text + "\n`lumbraquay COMMAND --help` tells more. Exit status: 0 done, 3 refused (the answer says why), 2 wrong use \
             or trouble\nwith a file, 4 done, but the report could not be written. 2 and 3 leave every file as it was.\n"

@@ -59,7 +59,7 @@ impl Mended {
         match refusal.place {
             Place::PageIndex => Some(self.answer.place),
             Place::PageOffset => Some(self.answer.place / PAGE_BYTES as u64),
-            Place::Nothing | Place::LogOffset => None,
+            Place::Nothing | Place::LogOffset | Place::SummaryOffset => None,
         }
     }
 

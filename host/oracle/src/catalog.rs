@@ -3,7 +3,7 @@
 
 use crate::bytes::{u32_at, u64_at};
 use crate::listing::{check, visible_rows, Visible};
-use crate::Refusal;
+use crate::{Refusal, Written};
 
 /// The longest name.
 const MAX_NAME_BYTES: usize = 255;
@@ -22,14 +22,6 @@ pub struct Table {
     pub name_length: u64,
     pub layout: u64,
     pub version: u64,
-}
-
-/// How many bytes were written; 0 where refused.
-#[derive(Clone, Copy, Debug, PartialEq, Eq, Default)]
-pub struct Written {
-    pub number: u64,
-    pub place: u64,
-    pub length: u64,
 }
 
 /// Which forms a reader knows.

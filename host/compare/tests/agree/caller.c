@@ -35,8 +35,7 @@ static void look(const char *function, size_t numbers, size_t out_len) {
         look(#function, numbers, out_len); \
     }
 
-static uint8_t pages[1 << 20], kept[sizeof pages], log_bytes[1 << 16], map[64];
-static uint8_t area[LQ_TABLE_LIMIT_BYTES];
+static uint8_t pages[1 << 20], kept[sizeof pages], log_bytes[1 << 16], map[64], area[1 << 16];
 static uint64_t table[64], rows[64];
 
 static size_t read_all(const char *name, uint8_t *into, size_t room) {
@@ -69,6 +68,13 @@ int main(int count, char **words) {
     CALL(lq_list_cancelled, LQ_LIST_VISIBLE_NUMBERS, 1, NULL, 0, 0, 0, NULL, 0)
     CALL(lq_free_map, LQ_FREE_MAP_NUMBERS, 1, NULL, 0, NULL, 0)
     must(whole[LQ_FREE_MAP_NUMBER] == LQ_DONE, "lq_free_map", "no pages need no map", MOST);
+    CALL(lq_summary_write, LQ_SUMMARY_WRITE_NUMBERS, 1, NULL, 0, 300, NULL, 0)
+    must(whole[LQ_SUMMARY_WRITE_NUMBER] == LQ_SUMMARY_AREA, "lq_summary_write", "no area is too short", MOST);
+    CALL(lq_summary_read, LQ_SUMMARY_READ_NUMBERS, NULL, 0)
+    must(whole[LQ_SUMMARY_READ_NUMBER] == LQ_SUMMARY_ENDS_EARLY, "lq_summary_read", "nothing is no summary", MOST);
+    CALL(lq_summary_row, LQ_SUMMARY_ROW_NUMBERS, NULL, 0, 0)
+    CALL(lq_summary_step, LQ_SUMMARY_STEP_NUMBERS, NULL, 0, 9)
+    must(whole[LQ_SUMMARY_STEP_NEXT] == 9, "lq_summary_step", "a step over nothing stays", MOST);
 
     CALL(lq_table_read, LQ_TABLE_READ_NUMBERS, NULL, 0)
     must(whole[LQ_TABLE_READ_NUMBER] == LQ_TABLE_ROW_ENDS_EARLY, "lq_table_read", "nothing ends early", MOST);
@@ -113,6 +119,19 @@ int main(int count, char **words) {
     must(whole[LQ_FREE_MAP_FREE] == 1, "lq_free_map", "one page is free", MOST);
     CALL(lq_free_map, LQ_FREE_MAP_NUMBERS, magic, kept, pages_len, NULL, 0)
     must(whole[LQ_FREE_MAP_NUMBER] == LQ_MAP_SHORT, "lq_free_map", "no map is too short", MOST);
+    CALL(lq_summary_write, LQ_SUMMARY_WRITE_NUMBERS, magic, kept, pages_len, 300, area, sizeof area)
+    must(whole[LQ_SUMMARY_WRITE_NUMBER] == LQ_DONE, "lq_summary_write", "the area is long enough", MOST);
+    size_t area_len = whole[LQ_SUMMARY_WRITE_LENGTH];
+    CALL(lq_summary_read, LQ_SUMMARY_READ_NUMBERS, area, area_len)
+    must(whole[LQ_SUMMARY_READ_LSN] == 300 && whole[LQ_SUMMARY_READ_COUNT] > 1, "lq_summary_read", "there are rows", MOST);
+    uint64_t first = whole[LQ_SUMMARY_READ_FIRST];
+    CALL(lq_summary_row, LQ_SUMMARY_ROW_NUMBERS, area, area_len, 0)
+    CALL(lq_summary_step, LQ_SUMMARY_STEP_NUMBERS, area, area_len, first)
+    lq_summary_row(area, area_len, 0, out, LQ_SUMMARY_ROW_NUMBERS);
+    for (int i = 0; i < 3; i++) {
+        must(whole[LQ_SUMMARY_STEP_PAGE + i] == rows[LQ_ROW_PAGE + i], "lq_summary_step", "another first row", MOST);
+        must(out[LQ_SUMMARY_ROW_PAGE + i] == rows[LQ_ROW_PAGE + i], "lq_summary_row", "another first row", MOST);
+    }
     CALL(lq_recover, LQ_RECOVER_NUMBERS, magic, 0, (uint8_t *)memcpy(pages, kept, sizeof kept), pages_len, log_bytes,
          log_len, table, sizeof table / sizeof *table)
     must(whole[LQ_RECOVER_COMMITTED] == 2, "lq_recover", "two transactions committed", MOST);

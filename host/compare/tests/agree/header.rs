@@ -5,7 +5,8 @@ use std::collections::BTreeMap;
 
 use library::refusal::{DONE, REFUSALS};
 use library::{
-    Answer, FreeMap, Listed, Listing, Record, Row, Step, Table, Verdict, Visible, Written,
+    Answer, FreeMap, Listed, Listing, Record, Row, Step, Summary, SummaryRow, SummaryStep, Table,
+    Verdict, Visible, Written,
 };
 
 const HEADER: &str = include_str!("../../../../include/lumbraquay.h");
@@ -83,6 +84,10 @@ fn names_and_numbers_are_the_same() {
         ("LIST_VISIBLE", &Listing::NAMES),
         ("ROW", &Listed::NAMES),
         ("FREE_MAP", &FreeMap::NAMES),
+        ("SUMMARY_WRITE", &Written::NAMES),
+        ("SUMMARY_READ", &Summary::NAMES),
+        ("SUMMARY_ROW", &SummaryRow::NAMES),
+        ("SUMMARY_STEP", &SummaryStep::NAMES),
         ("TABLE_READ", &Table::NAMES),
         ("TABLE_WRITE", &Written::NAMES),
     ] {
@@ -90,9 +95,7 @@ fn names_and_numbers_are_the_same() {
     }
     assert_eq!(constants(), expected);
     assert_eq!(library::version(), library::VERSION);
-    assert!(REFUSALS
-        .windows(2)
-        .all(|pair| pair[0].number < pair[1].number));
+    assert!(REFUSALS.is_sorted_by(|one, other| one.number < other.number));
 }
 
 /// `noDataPage` for `NO_DATA_PAGE`.

@@ -7,6 +7,7 @@ mod limits;
 mod maps;
 mod seeds;
 mod stack;
+mod summaries;
 
 use std::io::Write;
 

@@ -14,7 +14,7 @@ use crate::{assert_no_differences, tell};
 const SEEDS: Range<u64> = 0..20_000;
 
 /// The calls that are lent pages.
-const OVER_PAGES: [&str; 9] = [
+const OVER_PAGES: [&str; 10] = [
     "recover",
     "read_row",
     "verify",
@@ -24,10 +24,18 @@ const OVER_PAGES: [&str; 9] = [
     "list_cancelled",
     "free_map",
     "table_find",
+    "summary_write",
 ];
 
 /// The other calls that refuse by the papers' numbers.
-const OTHERS: [&str; 4] = ["log_open", "table_read", "table_read_older", "table_write"];
+const OTHERS: [&str; 6] = [
+    "log_open",
+    "table_read",
+    "table_read_older",
+    "table_write",
+    "summary_read",
+    "summary_row",
+];
 
 /// One sweep over all seeds, which the tests below look at.
 fn seen() -> &'static Seen {
@@ -211,4 +219,29 @@ fn spoiled_inputs_reach_every_refusal() {
         assert!(seen.kinds.contains_key(mutation.name), "{}", mutation.name);
     }
     assert_often(seen, &[("aim", 5_000)]);
+}
+
+/// Summaries of every kind are written and read, and each of their refusals is given often.
+#[test]
+fn summaries_reach_every_refusal() {
+    let seen = seen();
+    assert_no_differences(seen);
+    assert!(seen.times("summary_write", 27) > 5_000);
+    for entry in ["summary_read", "summary_row"] {
+        for number in 28..=33 {
+            let times = seen.times(entry, number);
+            assert!(times > 1_000, "{entry} gave {number} {times} times");
+        }
+    }
+    for kind in generate::summary_kinds() {
+        assert!(seen.events(kind) > 500, "{kind}: {}", seen.events(kind));
+    }
+    assert_often(
+        seen,
+        &[
+            ("summary written and read", 5_000),
+            ("summary gone through by steps", 5_000),
+            ("aim of a summary", 20_000),
+        ],
+    );
 }

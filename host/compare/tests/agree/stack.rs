@@ -50,6 +50,11 @@ fn call_everything() {
     assert_eq!(written.length, area.len() as u64);
     assert_eq!(library::table_read(&area).name(&area), names);
     assert_eq!(library::table_read_older(&area).number, 38);
+    let mut summary = vec![0; library::summary_room(300)];
+    let written = library::summary_write(MAGIC, &pages, 7, &mut summary);
+    summary.truncate(written.length as usize);
+    assert_eq!(library::summary_read(&summary).count, 300 * 80);
+    assert_eq!(library::summary_row(&summary, 300 * 80 - 1).page, 299);
     let row = library::read_row(MAGIC, 0, &pages, &log, 299, 900);
     assert_eq!(row.payload(&pages, &log), b"late");
     let answer = library::recover(MAGIC, 0, &mut pages, &log, &mut table);

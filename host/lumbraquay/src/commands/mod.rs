@@ -9,6 +9,7 @@ mod replay;
 mod report;
 mod row;
 mod rows;
+mod summary;
 mod table;
 mod tables;
 mod verify;
@@ -33,9 +34,18 @@ pub const ALL: &[Command] = &[
     tables::COMMAND,
     table::COMMAND,
     freemap::COMMAND,
+    summary::WRITE,
+    summary::SHOW,
+    summary::DIFF,
     report::COMMAND,
     replay::COMMAND,
 ];
+
+/// The first words of commands that have two, and what these are about.
+pub const GROUPS: &[(&str, &str)] = &[(
+    "summary",
+    "writes, shows and compares a list of the visible rows, kept beside the data",
+)];
 
 /// What PAGES and LOG mean wherever a command takes them.
 const PAGES: (&str, &str) = ("PAGES", "the page file; - for standard input");

@@ -7,6 +7,7 @@ use std::path::Path;
 use std::process::Command;
 
 use crate::sandbox::{repository, Sandbox, BINARY};
+use crate::usage::COMMANDS;
 
 const TRANSCRIPT: &str = include_str!("transcript.md");
 
@@ -88,10 +89,7 @@ fn run(name: &str, document: &str) -> Vec<String> {
 #[test]
 fn the_transcript_is_what_is_printed() {
     let lines = run("the transcript", TRANSCRIPT);
-    for command in [
-        "demo", "recover", "verify", "log", "pages", "rows", "row", "tables", "table", "freemap",
-        "report", "replay",
-    ] {
+    for command in COMMANDS {
         let start = format!("lumbraquay {command} ");
         assert!(
             lines.iter().any(|line| line.starts_with(&start)),

@@ -176,17 +176,37 @@ fn help(words: &[&str]) -> String {
     done(output.unwrap())
 }
 
-fn commands() -> Vec<String> {
-    let names = help(&[]);
+/// The names that a help text lists.
+fn listed(words: &[&str]) -> Vec<String> {
+    let names = help(words);
     let names = names.lines().filter_map(|line| line.strip_prefix("  "));
     names
+        .filter(|line| line.starts_with(|first: char| first.is_ascii_lowercase()))
         .map(|line| line.split(' ').next().unwrap().to_string())
         .collect()
 }
 
+/// The first words of commands.
+fn first_words() -> Vec<String> {
+    listed(&[])
+}
+
+/// The second words that a first one takes; none for a command of one word.
+fn second_words(first: &str) -> Vec<String> {
+    listed(&[first])
+}
+
+fn commands() -> Vec<String> {
+    let whole = |first: String| match second_words(&first) {
+        words if words.is_empty() => vec![first],
+        words => words.iter().map(|word| format!("{first} {word}")).collect(),
+    };
+    first_words().into_iter().flat_map(whole).collect()
+}
+
 /// The options that a command's help lists, with --help.
 fn options(command: &str) -> Vec<String> {
-    let listed = help(&[command]);
+    let listed = help(&command.split(' ').collect::<Vec<&str>>());
     let listed = listed.lines().filter_map(|line| line.strip_prefix("  --"));
     listed
         .map(|line| format!("--{}", line.split(' ').next().unwrap()))
@@ -210,7 +230,7 @@ fn the_man_page_is_true() {
     let shared = sections.remove("Options of several commands").unwrap();
     let mut told: Vec<(String, &str)> = Vec::new();
     for name in commands() {
-        let text = help(&[&name]);
+        let text = help(&name.split(' ').collect::<Vec<&str>>());
         let line = text.lines().find_map(|line| line.strip_prefix("Use: "));
         let section = sections.remove(line.unwrap());
         told.push((name, section.unwrap_or_else(|| panic!("{line:?}"))));
@@ -274,9 +294,12 @@ fn bash_completes() {
         );
         printed("bash", &script).expect("bash")
     };
-    let mut first = commands();
+    let mut first = first_words();
     first.extend(["--help".to_string(), "--version".to_string()]);
     assert_eq!(ask("lumbraquay ''"), sorted(first));
+    let mut second = second_words("summary");
+    second.push("--help".to_string());
+    assert_eq!(ask("lumbraquay summary ''"), sorted(second));
     assert_eq!(ask("lumbraquay rec"), ["recover"]);
     for name in commands() {
         let offered = ask(&format!("lumbraquay {name} --"));
@@ -299,7 +322,11 @@ fn fish_completes() {
     let Some(first) = ask("lumbraquay ") else {
         return;
     };
-    assert_eq!(first, sorted(commands()));
+    assert_eq!(first, sorted(first_words()));
+    let second = ask("lumbraquay summary ");
+    assert!(second_words("summary")
+        .iter()
+        .all(|word| second.as_ref().unwrap().contains(word)));
     for name in commands() {
         let mut known = options(&name);
         known.retain(|name| name != "--help");

@@ -18,6 +18,7 @@ mod refusals;
 mod replay;
 mod report;
 mod sandbox;
+mod summary;
 mod tables;
 mod tools;
 mod usage;

@@ -50,6 +50,7 @@ fn assert_told(done: Done, number: u64, place: u64) {
             place * 16_384
         ),
         Place::PageOffset => format!("{head} at offset {place} of pages, {}\n", part(place)),
+        Place::SummaryOffset => format!("{head} at offset {place} of list\n"),
     };
     let done = done.refuses(&[
         &format!("\n  meaning:    {}\n", known.when),
@@ -80,6 +81,7 @@ fn assert_told_as_json(done: Done, number: u64, place: u64) {
         Place::LogOffset => "offset in the log",
         Place::PageIndex => "page index",
         Place::PageOffset => "offset in the pages",
+        Place::SummaryOffset => "offset in the summary",
     };
     assert_eq!(object.text("place_is"), place_is);
     if known.place != Place::Nothing {

@@ -9,3 +9,4 @@ mod order_and_size;
 mod page_rules;
 mod paper_cases;
 mod rows_and_maps;
+mod summary;

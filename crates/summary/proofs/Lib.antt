@@ -1,0 +1,9 @@
+pub mod Grouping
+pub mod Spelling
+pub mod Places
+pub mod Threes
+pub mod RuleLaws
+pub mod RowBytes
+pub mod FileLaws
+pub mod Answers
+pub mod Example

@@ -1,0 +1,3 @@
+pub mod Number
+pub mod Summary
+pub mod Inner
