@@ -109,7 +109,7 @@ static inline const char *lq_refusal_meaning(uint64_t refusal) {
 uint32_t lq_crc32c(const uint8_t *s, size_t len);
 
 /* Where a reader of the log starts: at byte 32, or, with at_end, where the walk from there meets the exact end, a torn
- * tail or damage. Refuses 2 and 3. */
+ * tail, unused room or damage. Refuses 2 and 3. */
 void lq_log_open(const uint8_t *log, size_t len, bool at_end, uint64_t *out, size_t out_len);
 
 enum lq_log_open_answer {
@@ -148,6 +148,7 @@ enum lq_step {
     LQ_STEP_ENTRY = 0,  /* a whole entry */
     LQ_STEP_END = 1,    /* forward: the exact end; backward: no whole entry ends here */
     LQ_STEP_TORN = 2,   /* forward: a torn tail, which ends the log and is accepted */
+    LQ_STEP_UNUSED = 3, /* forward: 4 or more bytes are left and all are zero, room set aside; it ends the log too */
     LQ_STEP_DAMAGED = 4 /* forward: damage */
 };
 
@@ -175,7 +176,7 @@ enum lq_recover_answer {
     LQ_RECOVER_NUMBER = 0,
     LQ_RECOVER_PLACE = 1,
     LQ_RECOVER_LAST_LSN = 2,    /* of the last whole entry, 0 if there is none */
-    LQ_RECOVER_TAIL_OFFSET = 3, /* where the torn tail starts; the log's length where nothing is torn */
+    LQ_RECOVER_TAIL_OFFSET = 3, /* where the torn tail or the unused room starts; else the log's length */
     LQ_RECOVER_COMMITTED = 4,   /* transactions, and so the next two */
     LQ_RECOVER_ROLLED_BACK = 5,
     LQ_RECOVER_UNENDED = 6,
@@ -183,9 +184,17 @@ enum lq_recover_answer {
     LQ_RECOVER_CHANGES_ROLLED_BACK = 8,
     LQ_RECOVER_CHANGES_UNENDED = 9,
     LQ_RECOVER_CHANGES_ZERO = 10,
-    LQ_RECOVER_PAGES_REWRITTEN = 11
+    LQ_RECOVER_PAGES_REWRITTEN = 11,
+    LQ_RECOVER_ENDING = 12 /* how the log ends at the tail offset */
 };
-#define LQ_RECOVER_NUMBERS 12
+#define LQ_RECOVER_NUMBERS 13
+
+/* How a log ends. */
+enum lq_ending {
+    LQ_ENDED_EXACTLY = 0,
+    LQ_ENDED_TORN = 1,
+    LQ_ENDED_UNUSED = 2 /* zero bytes to the end of the log: room set aside */
+};
 
 /* A record of a table. */
 enum lq_record {

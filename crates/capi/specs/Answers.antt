@@ -6,7 +6,7 @@ use lib.ListN.{length, take, drop}
 use Rattle.wal.specs.Read.{headerFault, readAt, found, readBefore}
 use Rattle.wal.specs.Reader.{openedAt, placeAfter, placeBefore}
 use Rattle.wal.specs.declared.Reading.{Reading}
-use Rattle.wal.specs.declared.Reading.the-variants.{Whole, End, Torn, Damage}
+use Rattle.wal.specs.declared.Reading.the-variants.{Whole, End, Torn, Unused, Damage}
 use Rattle.wal.specs.declared.Before.{Before}
 use Rattle.wal.specs.declared.Before.the-variants.{Found, Nothing}
 use Rattle.rules.specs.declared.Answer.{Answer}
@@ -41,11 +41,12 @@ given numbers out = take (length out) numbers ++ drop (length numbers) out
 unfoldable pub openNumbers : Bool → List ℕ → List ℕ
 openNumbers end log = headerFault log ∷ openedAt end log ∷ []
 
--- kind of what a step finds: 0 entry, 1 exact end or none, 2 torn tail, 4 damage
+-- kind of what a step finds: 0 entry, 1 exact end or none, 2 torn tail, 3 unused room, 4 damage
 abbrev pub kindForward : Reading → ℕ
 kindForward (Whole v) = 0
 kindForward End = 1
 kindForward Torn = 2
+kindForward Unused = 3
 kindForward Damage = 4
 
 abbrev pub kindBackward : Before → ℕ
@@ -121,11 +122,12 @@ writtenNumbers w = w .verdict .number ∷ w .verdict .place ∷ w .length ∷ []
 
 -- ---- recovery
 
--- lq_recover: number, place, last LSN, tail offset, transactions committed, rolled back, unended, changes of each of these and of transaction 0, pages rewritten
+-- lq_recover: number, place, last LSN, tail offset, transactions committed, rolled back, unended, changes of each of these and of transaction 0, pages rewritten,
+-- ending of the log
 abbrev pub answerNumbers : Answer → List ℕ
 answerNumbers a =
     a .number ∷ a .place ∷ a .«last_lsn» .0 ∷ a .tail ∷ a .committed ∷ a .«rolled_back» ∷ a .unended
-    ∷ a .«changes_committed» ∷ a .«changes_rolled_back» ∷ a .«changes_unended» ∷ a .«changes_zero» ∷ a .rewritten ∷ []
+    ∷ a .«changes_committed» ∷ a .«changes_rolled_back» ∷ a .«changes_unended» ∷ a .«changes_zero» ∷ a .rewritten ∷ a .ending ∷ []
 
 -- lq_read_row: number, place, filled, xmin, xmax, deleted, source of the payload, its offset there, its length, the pad bytes
 abbrev pub locatedNumbers : Located → List ℕ

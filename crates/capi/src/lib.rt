@@ -27,12 +27,14 @@ use wal::Before;
 use wal::EntryView;
 use wal::Reading;
 
-// What a step over the log finds: an entry; the exact end, or no entry that ends at the place; a torn tail; damage.
+// What a step over the log finds: an entry; the exact end, or no entry that ends at the place; a torn tail; unused room; damage.
 const ENTRY: u64 = 0;
 
 const END: u64 = 1;
 
 const TORN: u64 = 2;
+
+const UNUSED: u64 = 3;
 
 const DAMAGED: u64 = 4;
 
@@ -113,6 +115,7 @@ fn forward_numbers(reading: Reading, next: usize) -> [u64; 11]
         Reading::Whole(v) => entry_numbers(next, v),
         Reading::End => no_entry(END, next),
         Reading::Torn => no_entry(TORN, next),
+        Reading::Unused => no_entry(UNUSED, next),
         Reading::Damage => no_entry(DAMAGED, next),
     }
 }
@@ -315,7 +318,7 @@ pub extern "C" fn lq_table_find(magic: u64, pages: &[u8], table: u32, out: &mut 
 }
 
 // The numbers of an answer.
-fn answer_numbers(a: Answer) -> [u64; 12]
+fn answer_numbers(a: Answer) -> [u64; 13]
     ensures { λ r. ⌜ r ≡ answerNumbers a ⌝ }
 {
     let last = a.last_lsn;
@@ -332,6 +335,7 @@ fn answer_numbers(a: Answer) -> [u64; 12]
         a.changes_unended,
         a.changes_zero,
         a.rewritten,
+        a.ending,
     ]
 }
 

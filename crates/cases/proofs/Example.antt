@@ -1,7 +1,7 @@
--- The example history meets every hypothesis of demand 3: it is honest, its pages stand at their moments, the cut has what they felt, and recovery accepts.
+-- The example history and three files of its log meet every hypothesis of demand 3: it is honest, its log ends exactly, its pages stand at their moments, each file has what they felt, and
+-- recovery accepts it.
 -- Assumes nothing.
-use mathlib.Core.Path.{_≡_, refl, sym, ap, _∙_, subst}
-use mathlib.Core.Logic.{_⊎_}
+use mathlib.Core.Path.{_≡_, refl, sym, ap, _∙_}
 use mathlib.Core.Bool.{Bool, true, false}
 use Prim.Native.Nat.{ℕ, zero, suc, _+_, _≤_, _<_}
 use native.Mathlib.Omega.{arith}
@@ -12,27 +12,29 @@ use borrow.Author.Tests.{eqb-true}
 use Rattle.endian.specs.Pick.{pick}
 use Rattle.endian.specs.Numbers.{bytesOf, numberOf, numberAt}
 use Rattle.wal.specs.Entry.{Entry, AllEncodable, encoded, encodedAll, unsealed, header, sizesOf}
-use Rattle.wal.specs.Read.{headerFault, readAt}
-use Rattle.wal.specs.Walk.{entries, endOf}
+use Rattle.wal.specs.Read.{headerFault, allZero, readAt}
+use Rattle.wal.specs.Walk.{entries, endOf, endingOf}
 use Rattle.wal.specs.declared.EntryView.{EntryView}
-use Rattle.wal.specs.declared.Reading.the-variants.{Whole, Torn}
-use Rattle.wal.proofs.WalkLaws.{not-torn}
+use Rattle.wal.specs.declared.Reading.{Reading}
+use Rattle.wal.specs.declared.Reading.the-variants.{Whole, Torn, Unused}
+use Rattle.wal.proofs.WalkLaws.{not-torn, not-unused}
 use Rattle.wal.proofs.Encoding.{entries-encoded, end-encoded, entries-log}
 use Rattle.page.specs.Layout.{dataType, pagesIn, pageAt, typeOf, slotAt}
 use Rattle.rules.specs.Shape.{Change, both, isKnown, isChange, isChanging, isImage, same, isKeyed, isBare, isShaped, pageOf, slotOf, beforeOf, afterOf, isOn, effectOn, topOn, sameSlot}
-use Rattle.rules.specs.Order.{begun, ended, isOpen, inOrder, clashes, faultAfter, orderFrom}
+use Rattle.rules.specs.Order.{begun, ended, isOpen, inOrder, clashes, faultAfter, orderFrom, endVerdict}
 use Rattle.rules.specs.Mend.{committed, changes, topOf, decided}
 use Rattle.rules.specs.Recover.{recoverOf}
 use Rattle.rules.proofs.Slots.{changes-past}
-use Rattle.history.specs.History.{Step, State, loggedIn, Finds, change, run, start, Honest}
+use Rattle.history.specs.History.{State, loggedIn, Finds, run, start, Honest}
 use Rattle.history.specs.Demand3.{History, Stands, HasFelt}
 use Rattle.history.proofs.OneSlot.{untouched}
-use Rattle.cases.specs.Build.{begins, commits, inserts, updates, magic, page, area}
+use Rattle.cases.specs.Build.{begins, inserts, updates, magic, page}
 use Rattle.cases.specs.Starred.{a, b, c, noRecord}
-use Rattle.cases.specs.Example.{before, steps, whole, log, cut, moment, stood}
+use Rattle.cases.specs.Example.{before, steps, whole, all, log, torn, roomy, completed, moment, stood}
 use Rattle.cases.proofs.Parts.{tuple-bytes, bare, insertable, updatable}
 use Rattle.cases.proofs.Area.{PageOk, EachPage, empty-ok, filled-ok, pages-in, page-at, slot-of, type-of}
-use Rattle.cases.proofs.Pages.{Says, Computes, number}
+use Rattle.cases.proofs.Pages.{Says, ends-log, Computes, number}
+use Rattle.refusals.specs.Verdict.{accepted}
 use Rattle.rules.specs.Lent.{lent}
 
 -- ---- pages
@@ -82,7 +84,7 @@ encodable = (
   ),
 )
 
-all-encodable : AllEncodable (whole ++ (begins 9 10 ∷ []))
+all-encodable : AllEncodable all
 all-encodable =
     let e = encodable in
     (e .0, (e .1 .0, (e .1 .1 .0, (e .1 .1 .1 .0, (e .1 .1 .1 .1 .0, (e .1 .1 .1 .1 .1 .0, (e .1 .1 .1 .1 .1 .1 .0, (e .1 .1 .1 .1 .1 .1 .1 .0, (bare 1 9 10 (lit< tt) (lit< tt) (lit< tt), tt)))))))))
@@ -114,7 +116,7 @@ honest = (
 )
 
 pub example : History
-example = record { pages = before; steps = steps; log = log; honest = honest; inLog = entries-log (whole ++ (begins 9 10 ∷ [])) all-encodable }
+example = record { pages = before; steps = steps; log = log; honest = honest; inLog = entries-log all all-encodable; ends = ends-log all all-encodable }
 
 -- ---- the pages stand at their moments
 
@@ -149,53 +151,115 @@ stands = record { type = λ i l d. data-page i l; slots = λ i k l d. each i k l
     each (suc zero) k l = ap (λ (p : List ℕ). slotAt p k) (page-at (page 7 (c ∷ []) ∷ page 5 (a ∷ []) ∷ []) stood-ok 1 (lit< tt)) ∙ slot-of 1 _ (stood-ok .1 .0) k ∙ slot-1 k
     each (suc (suc i)) k l = absurd (omega (arith, two))
 
--- ---- the cut
+-- ---- files of the log
 
-cut-is : take cut log ≡ header ++ (encodedAll whole ++ take 20 (encoded (begins 9 10)))
-unfolding encodedAll encoded unsealed header bytesOf
-cut-is = refl
+-- a log of a header, encoded entries and some bytes behind them, of which it is known how they read
+record Behind (file : List ℕ) (es : List Entry) (rest : List ℕ) (r : Reading) : Type 0 where
+  is : file ≡ header ++ (encodedAll es ++ rest)
+  head : headerFault (header ++ (encodedAll es ++ rest)) ≡ 0
+  reads : readAt (header ++ (encodedAll es ++ rest)) (32 + sizesOf es) ≡ r
+  never : (v : EntryView) → r ≡ Whole v → ⊥
+  fine : (at : ℕ) → endVerdict r at ≡ accepted
 
-abbrev torn : List ℕ
-torn = header ++ (encodedAll whole ++ take 20 (encoded (begins 9 10)))
+header-32 : length header ≡ 32
+unfolding header bytesOf
+header-32 = refl
 
-torn-head : (headerFault torn ≡ 0) × (length header ≡ 32)
-unfolding headerFault encodedAll encoded unsealed header bytesOf numberAt numberOf
-torn-head = (refl, refl)
+module _ {file : List ℕ} {es : List Entry} {rest : List ℕ} {r : Reading} (b : Behind file es rest r) (fs : AllEncodable es) where
+  stop : (v : EntryView) → readAt (header ++ (encodedAll es ++ rest)) (32 + sizesOf es) ≡ Whole v → ⊥
+  stop v q = b .never v (sym (b .reads) ∙ q)
 
-reads-torn : readAt torn (32 + sizesOf whole) ≡ Torn
-unfolding readAt encodedAll encoded unsealed header bytesOf numberAt numberOf
-reads-torn = refl
+  end-is : endOf file ≡ 32 + sizesOf es
+  end-is = ap endOf (b .is) ∙ end-encoded header rest header-32 es fs stop
 
-stop : (v : EntryView) → readAt torn (32 + sizesOf whole) ≡ Whole v → ⊥
-stop v q = not-torn (sym reads-torn ∙ q)
+  ending-is : endingOf file ≡ r
+  ending-is = ap (readAt file) end-is ∙ ap (λ (s : List ℕ). readAt s (32 + sizesOf es)) (b .is) ∙ b .reads
 
-end-torn : endOf torn ≡ 32 + sizesOf whole
-end-torn = end-encoded header (take 20 (encoded (begins 9 10))) (torn-head .1) whole encodable stop
+  says-file : Says file es
+  says-file =
+      record {
+        head = ap headerFault (b .is) ∙ b .head;
+        says = ap entries (b .is) ∙ entries-encoded header rest header-32 es fs stop;
+        end = ap (λ (x : Reading). endVerdict x (endOf file)) ending-is ∙ b .fine (endOf file);
+      }
 
-pub end-cut : endOf (take cut log) ≡ 32 + sizesOf whole
-end-cut = ap endOf cut-is ∙ end-torn
+torn-behind : Behind torn whole (take 20 (encoded (begins 9 10))) Torn
+unfolding headerFault readAt allZero encodedAll encoded unsealed header bytesOf numberAt numberOf
+torn-behind = record { is = refl; head = refl; reads = refl; never = λ v q. not-torn q; fine = λ at. refl }
 
-pub says : Says (take cut log) whole
-says =
-    subst (λ (l : List ℕ). Says l whole) (sym cut-is)
-    (record {
-      head = torn-head .0;
-      says = entries-encoded header (take 20 (encoded (begins 9 10))) (torn-head .1) whole encodable stop;
-      end = rw (end-torn, reads-torn);
-    })
+roomy-behind : Behind roomy whole (replicate 16 0) Unused
+unfolding headerFault readAt allZero encodedAll encoded unsealed header bytesOf numberAt numberOf
+roomy-behind = record { is = refl; head = refl; reads = refl; never = λ v q. not-unused q; fine = λ at. refl }
 
-pub felt : HasFelt example moment stood cut
+completed-behind : Behind completed all (replicate 4 0) Unused
+unfolding headerFault readAt allZero encodedAll encoded unsealed header bytesOf numberAt numberOf
+completed-behind = record { is = refl; head = refl; reads = refl; never = λ v q. not-unused q; fine = λ at. refl }
+
+pub end-torn : endOf torn ≡ 32 + sizesOf whole
+end-torn = end-is torn-behind encodable
+
+pub ending-torn : endingOf torn ≡ Torn
+ending-torn = ending-is torn-behind encodable
+
+pub says : Says torn whole
+says = says-file torn-behind encodable
+
+pub says-roomy : Says roomy whole
+says-roomy = says-file roomy-behind encodable
+
+-- the entry whose last three bytes are taken from the zeros is found whole
+pub says-completed : Says completed all
+says-completed = says-file completed-behind all-encodable
+
+-- ---- each file has what the pages felt
+
+felt-whole : (file : List ℕ) → Says file whole → HasFelt example moment stood file
 unfolding example topOf
-felt = record { felt = λ i l d. each i l }
+felt-whole file s = record { felt = λ i l d. each i l }
   where
-    each : (i : ℕ) → i < pagesIn stood → topOf i (drop (length (entries (take cut log))) (loggedIn (take (moment i) steps))) ≡ 0
-    each zero l = rw (says .says)
-    each (suc i) l = rw (says .says)
+    each : (i : ℕ) → i < pagesIn stood → topOf i (drop (length (entries file)) (loggedIn (take (moment i) steps))) ≡ 0
+    each zero l = rw (s .says)
+    each (suc i) l = rw (s .says)
+
+pub felt : HasFelt example moment stood torn
+felt = felt-whole torn says
+
+pub felt-roomy : HasFelt example moment stood roomy
+felt-roomy = felt-whole roomy says-roomy
+
+pub felt-completed : HasFelt example moment stood completed
+unfolding example topOf
+felt-completed = record { felt = λ i l d. each i l }
+  where
+    each : (i : ℕ) → i < pagesIn stood → topOf i (drop (length (entries completed)) (loggedIn (take (moment i) steps))) ≡ 0
+    each zero l = rw (says-completed .says)
+    each (suc i) l = rw (says-completed .says)
+
+-- ---- recovery accepts each
 
 pub computes : Computes (page 7 (c ∷ []) ∷ page 5 (a ∷ []) ∷ []) whole
 unfolding orderFrom faultAfter isKnown isShaped isBare isImage isKeyed same isChanging inOrder isOpen begun ended clashes sameSlot isOn numberAt numberOf bytesOf
 computes = record { pages = stood-ok; few = lit≤ tt; order = refl; onPage = (lit< tt, (lit< tt, (lit< tt, (lit< tt, (lit< tt, (lit< tt, (lit< tt, (lit< tt, tt)))))))) }
 
-pub ok : recoverOf (lent magic 7 stood (take cut log)) (replicate 8 noRecord) .answer .number ≡ 0
+computes-all : Computes (page 7 (c ∷ []) ∷ page 5 (a ∷ []) ∷ []) all
+unfolding orderFrom faultAfter isKnown isShaped isBare isImage isKeyed same isChanging inOrder isOpen begun ended clashes sameSlot isOn numberAt numberOf bytesOf
+computes-all = record { pages = stood-ok; few = lit≤ tt; order = refl; onPage = (lit< tt, (lit< tt, (lit< tt, (lit< tt, (lit< tt, (lit< tt, (lit< tt, (lit< tt, (lit< tt, tt))))))))) }
+
+pub ok : recoverOf (lent magic 7 stood torn) (replicate 8 noRecord) .answer .number ≡ 0
 unfolding topOn topOf changes effectOn decided committed isOn isChanging numberAt numberOf bytesOf beforeOf afterOf
-ok = number 7 (page 7 (c ∷ []) ∷ page 5 (a ∷ []) ∷ []) (take cut log) whole (replicate 8 noRecord) refl says computes (lit≤ tt, (lit≤ tt, tt)) (λ t. lit≤ tt, (λ t. lit≤ tt, tt))
+ok = number 7 (page 7 (c ∷ []) ∷ page 5 (a ∷ []) ∷ []) torn whole (replicate 8 noRecord) refl says computes (lit≤ tt, (lit≤ tt, tt)) (λ t. lit≤ tt, (λ t. lit≤ tt, tt))
+
+pub ok-roomy : recoverOf (lent magic 7 stood roomy) (replicate 8 noRecord) .answer .number ≡ 0
+unfolding topOn topOf changes effectOn decided committed isOn isChanging numberAt numberOf bytesOf beforeOf afterOf
+ok-roomy = number 7 (page 7 (c ∷ []) ∷ page 5 (a ∷ []) ∷ []) roomy whole (replicate 8 noRecord) refl says-roomy computes (lit≤ tt, (lit≤ tt, tt)) (λ t. lit≤ tt, (λ t. lit≤ tt, tt))
+
+pub ok-completed : recoverOf (lent magic 7 stood completed) (replicate 8 noRecord) .answer .number ≡ 0
+unfolding topOn topOf changes effectOn decided committed isOn isChanging numberAt numberOf bytesOf beforeOf afterOf
+ok-completed = number 7 (page 7 (c ∷ []) ∷ page 5 (a ∷ []) ∷ []) completed all (replicate 8 noRecord) refl says-completed computes-all (lit≤ tt, (lit≤ tt, tt)) (λ t. lit≤ tt, (λ t. lit≤ tt, tt))
+
+-- both endings are told: unused, at the place behind the last whole entry
+pub unused-roomy : (endingOf roomy ≡ Unused) × (endOf roomy ≡ 32 + sizesOf whole)
+unused-roomy = (ending-is roomy-behind encodable, end-is roomy-behind encodable)
+
+pub unused-completed : (endingOf completed ≡ Unused) × (endOf completed ≡ 32 + sizesOf all)
+unused-completed = (ending-is completed-behind all-encodable, end-is completed-behind all-encodable)

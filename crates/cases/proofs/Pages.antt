@@ -11,7 +11,7 @@ use lib.Dec.{ltb, eqb·suc-zero}
 use borrow.Author.Tests.{eq-eqb, lt-ltb, le-ltb}
 use Rattle.wal.specs.Entry.{Entry, AllEncodable, sizesOf}
 use Rattle.wal.specs.Read.{headerFault, readAt, first, logLimit}
-use Rattle.wal.specs.Walk.{entries, endOf}
+use Rattle.wal.specs.Walk.{entries, endOf, endingOf, endingNumber}
 use Rattle.wal.specs.declared.Reading.the-variants.{End}
 use Rattle.wal.proofs.Encoding.{entries-log, end-log, header-log, length-log}
 use Rattle.wal.proofs.ReadLaws.{past-end}
@@ -53,18 +53,19 @@ fit-nth i [] es h j l = absurd (omega arith)
 fit-nth i (q ∷ ps) es h zero l = rw add-zero (h .0)
 fit-nth i (q ∷ ps) es h (suc j) l = let e : suc i + j ≡ i + suc j = omega arith in rw (← e) (fit-nth (suc i) ps es (h .1) j (omega arith))
 
--- a log that says the entries es, keeps the order rules, and ends at its end or a torn tail
+-- a log that says the entries es, keeps the order rules, and ends at its end, in a torn tail or unused
 pub record Says (log : List ℕ) (es : List Entry) : Type 0 where
   pub head : headerFault log ≡ 0
   pub says : entries log ≡ es
   pub end : endVerdict (readAt log (endOf log)) (endOf log) ≡ accepted
 
--- the log of encoded entries is one
+-- the log of encoded entries ends exactly
+pub ends-log : (es : List Entry) → AllEncodable es → endingOf (logOf es) ≡ End
+ends-log es fs = ap (readAt (logOf es)) (end-log es fs) ∙ sym (past-end (logOf es) (length (logOf es)) (omega arith))
+
+-- and is such a log
 pub plain : (es : List Entry) → AllEncodable es → 32 + sizesOf es ≤ logLimit → Says (logOf es) es
-plain es fs short =
-    let n : endOf (logOf es) ≡ length (logOf es) = end-log es fs in
-    let r : readAt (logOf es) (endOf (logOf es)) ≡ End = ap (readAt (logOf es)) n ∙ sym (past-end (logOf es) (length (logOf es)) (omega arith)) in
-    record { head = header-log es fs (omega (arith, length-log es fs)); says = entries-log es fs; end = rw r }
+plain es fs short = record { head = header-log es fs (omega (arith, length-log es fs)); says = entries-log es fs; end = rw (ends-log es fs) }
 
 -- what is computed of pages and entries
 pub record Computes (ps : List Page) (es : List Entry) : Type 0 where
@@ -128,10 +129,10 @@ module _ (floor : ℕ) (ps : List Page) (log : List ℕ) (es : List Entry) (T : 
           roomy = λ i l t. let l′ : i < length ps = omega (arith, pages-in ps (x .pages)) in rw (here i l′, log-is .says, slots-for i l′) (fits i l′ (rw (log-is .says) at t));
         }
 
-    pub answer : recoverOf (lent magic floor (area ps) log) T .answer ≡ done es (endOf log) (length ps)
+    pub answer : recoverOf (lent magic floor (area ps) log) T .answer ≡ done es (endOf log) (endingNumber (endingOf log)) (length ps)
     answer =
         recover-done magic floor (area ps) log T (accepted-is (fullAt (length T)) magic floor (area ps) log accepts) .0
-        ∙ ap₂ (λ (E : List Entry) (n : ℕ). done E (endOf log) n) (log-is .says) (pages-in ps (x .pages))
+        ∙ ap₂ (λ (E : List Entry) (n : ℕ). done E (endOf log) (endingNumber (endingOf log)) n) (log-is .says) (pages-in ps (x .pages))
 
     pub number : recoverOf (lent magic floor (area ps) log) T .answer .number ≡ 0
     unfolding done

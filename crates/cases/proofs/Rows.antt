@@ -10,7 +10,7 @@ use lib.Dec.{lit<, lit≤}
 use Rattle.endian.specs.Numbers.{bytesOf, numberOf, numberAt}
 use Rattle.endian.proofs.Bytes.{bytes-nil}
 use Rattle.wal.specs.Entry.{Entry, encoded, unsealed, header}
-use Rattle.wal.specs.Read.{headerFault, readAt}
+use Rattle.wal.specs.Read.{headerFault, readAt, allZero}
 use Rattle.wal.specs.Walk.{views}
 use Rattle.wal.specs.declared.EntryView.{EntryView}
 use Rattle.wal.specs.declared.Reading.{Reading}
@@ -197,7 +197,7 @@ module _ (s : List ℕ) (head : headerFault s ≡ 0) (r : Reading) (read : readA
       (ap (λ (x : Answer). x .number) d, ap (λ (x : Answer). x .tail) d ∙ rw no-views)
 
 row-header : Meets (run (input 0 [] header)) (tail 32)
-unfolding headerFault readAt header bytesOf numberAt numberOf
+unfolding headerFault readAt allZero header bytesOf numberAt numberOf
 row-header = tail-is header refl End refl (λ v q. not-end q) refl
 
 row-short : Meets (run (input 0 [] (take 31 header))) (answers 3 0)
@@ -205,11 +205,11 @@ unfolding recoverVerdict logVerdict headerFault header sizeWrong bytesOf
 row-short = refusal 0 [] _ _ eight 2 0 refl
 
 row-torn : Meets (run (input 0 [] (header ++ take 42 (encoded (begins 1 7))))) (tail 32)
-unfolding headerFault readAt header encoded unsealed bytesOf numberAt numberOf
+unfolding headerFault readAt allZero header encoded unsealed bytesOf numberAt numberOf
 row-torn = tail-is (header ++ take 42 (encoded (begins 1 7))) refl Torn refl (λ v q. not-torn q) refl
 
 row-damage : Meets (run (input 0 [] (header ++ (bytesOf 4 42 ++ replicate 38 0)))) (answers 4 32)
-unfolding headerFault readAt header bytesOf numberAt numberOf
+unfolding headerFault readAt allZero header bytesOf numberAt numberOf
 row-damage = refusal 0 [] _ _ eight 3 32 (ends (header ++ (bytesOf 4 42 ++ replicate 38 0)) refl Damage refl (λ v q. not-damage q))
 
 pub all-starred : Starred

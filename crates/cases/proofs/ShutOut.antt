@@ -1,12 +1,14 @@
 -- Wrong recoveries that the definitions shut out (paper 01, How far each promise reaches), each by what recovery gives on the example history.
 -- Assumes nothing.
-use mathlib.Core.Path.{_≡_, refl, ap, _∙_}
+use mathlib.Core.Path.{_≡_, refl, ap, ap₂, _∙_}
 use Prim.Native.Nat.{ℕ, _+_}
 use mathlib.Core.List.{List, [], _∷_}
-use lib.ListN.{take, replicate}
+use lib.ListN.{replicate}
 use lib.Dec.{lit<, lit≤}
 use Rattle.endian.specs.Numbers.{bytesOf, numberOf, numberAt}
 use Rattle.wal.specs.Entry.{sizesOf}
+use Rattle.wal.specs.Walk.{endingNumber}
+use Rattle.wal.specs.declared.Reading.{Reading}
 use Rattle.page.specs.Layout.{pageAt, slotAt}
 use Rattle.rules.specs.Shape.{isChange, isChanging, isOn, effectOn, topOn, beforeOf, afterOf}
 use Rattle.rules.specs.Mend.{committed, changes, topOf, decided}
@@ -14,14 +16,14 @@ use Rattle.rules.specs.Recover.{Recovered, recoverOf, done, outcomeOf, transact
 use Rattle.rules.specs.declared.Answer.{Answer}
 use Rattle.cases.specs.Build.{magic, page}
 use Rattle.cases.specs.Starred.{a, b, c, noRecord}
-use Rattle.cases.specs.Example.{log, cut, whole, stood}
+use Rattle.cases.specs.Example.{torn, whole, stood}
 use Rattle.cases.proofs.Area.{page-at, slot-of}
 use Rattle.cases.proofs.Pages.{answer, slot}
-use Rattle.cases.proofs.Example.{says, computes, ok, stood-ok, end-cut}
+use Rattle.cases.proofs.Example.{says, computes, ok, stood-ok, end-torn, ending-torn}
 use Rattle.rules.specs.Lent.{lent}
 
 abbrev recovered : Recovered
-recovered = recoverOf (lent magic 7 stood (take cut log)) (replicate 8 noRecord)
+recovered = recoverOf (lent magic 7 stood torn) (replicate 8 noRecord)
 
 -- one that always refuses
 pub not-always-refused : recovered .answer .number ≡ 0
@@ -58,7 +60,8 @@ pub counts-the-entries : recovered .answer
       «changes_unended» = 3;
       «changes_zero» = 0;
       rewritten = 2;
+      ending = 1;
     }
 unfolding done transactions changesOf changesZero outcomeOf touchedFrom topOn topOf changes effectOn decided committed isOn isChanging numberAt numberOf bytesOf beforeOf afterOf
 counts-the-entries =
-    answer 7 _ _ whole _ refl says computes (lit≤ tt, (lit≤ tt, tt)) (λ t. lit≤ tt, (λ t. lit≤ tt, tt)) ∙ ap (λ (n : ℕ). done whole n 2) end-cut
+    answer 7 _ _ whole _ refl says computes (lit≤ tt, (lit≤ tt, tt)) (λ t. lit≤ tt, (λ t. lit≤ tt, tt)) ∙ ap₂ (λ (n : ℕ) (r : Reading). done whole n (endingNumber r) 2) end-torn ending-torn

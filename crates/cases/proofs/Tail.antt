@@ -1,21 +1,21 @@
--- The tail offset is the log's own length where nothing is torn or damaged (paper 01, Log). Assumes nothing.
+-- The tail offset is the log's own length where nothing is torn, unused or damaged (paper 01, Log). Assumes nothing.
 use Prim.Native.Nat.{ℕ, _+_, _-_, _≤_, _<_}
 use mathlib.Core.Path.{_≡_, refl, ap}
 use mathlib.Core.Bool.{Bool, true, false}
 use mathlib.Core.List.{List}
 use native.Mathlib.Omega.{arith}
 use native.Mathlib.Decide.{decLe}
-use lib.ListN.{length}
-use lib.Dec.{ltb, leb, eqb}
+use lib.ListN.{length, drop}
+use lib.Dec.{ltb, eqb}
 use borrow.Author.Tests.{le-ltb, lt-leb}
 use Rattle.endian.specs.Pick.{pick}
 use Rattle.endian.specs.Numbers.{part, numberAt}
 use Rattle.crc32c.specs.Crc.{crc32c}
-use Rattle.wal.specs.Read.{shortest, longest, lengthAt, keyLen, oldLen, newLen, view, innerAt, wholeAt, readAt}
+use Rattle.wal.specs.Read.{shortest, longest, allZero, lengthAt, keyLen, oldLen, newLen, view, innerAt, wholeAt, readAt}
 use Rattle.wal.specs.Walk.{endOf}
 use Rattle.wal.specs.declared.EntryView.{EntryView}
 use Rattle.wal.specs.declared.Reading.{Reading}
-use Rattle.wal.specs.declared.Reading.the-variants.{Whole, End, Torn, Damage}
+use Rattle.wal.specs.declared.Reading.the-variants.{Whole, End, Torn, Unused, Damage}
 use Rattle.wal.proofs.Prefix.{met-end, met-from, end-le}
 
 -- 0 for the exact end alone
@@ -23,6 +23,7 @@ abbrev mark : Reading → ℕ
 mark (Whole v) = 1
 mark End = 0
 mark Torn = 1
+mark Unused = 1
 mark Damage = 1
 
 record Other (r : Reading) : Type 0 where
@@ -34,6 +35,9 @@ either-way false h k = k
 
 torn : Other Torn
 torn = record { is = refl }
+
+unused : Other Unused
+unused = record { is = refl }
 
 whole : (v : EntryView) → Other (Whole v)
 whole v = record { is = refl }
@@ -61,10 +65,11 @@ unfolding readAt
 left-other s p f l =
     rw (le-ltb p 32 f, lt-leb (length s) p l)
     (either-way (ltb (length s - p) 4) torn
+    (either-way (allZero (drop p s)) unused
     (either-way (ltb (lengthAt s p) shortest) damage
     (either-way (ltb longest (lengthAt s p)) damage
     (either-way (ltb (length s - p) (lengthAt s p)) torn
-    (whole-other s p (lengthAt s p))))))
+    (whole-other s p (lengthAt s p)))))))
 
 pub tail-exact : (s : List ℕ) → 32 ≤ length s → readAt s (endOf s) ≡ End → endOf s ≡ length s
 tail-exact s h e =

@@ -1,9 +1,9 @@
--- An honest history of two pages and ten steps: transaction 7 commits; 8 has not ended; 9 is in the middle of taking its changes back. The cut tears the last entry, page 0 stands after
--- nine steps, page 1 after five.
+-- An honest history of two pages and ten steps: transaction 7 commits; 8 has not ended; 9 is in the middle of taking its changes back. Page 0 stands after nine steps, page 1 after five.
+-- Three files of its log: a cut that tears the last entry; a cut before it, and sixteen zero bytes; and a cut that lacks the three zero bytes at the end of its second length, and seven zero bytes.
 use Prim.Native.Nat.{ℕ, zero, suc, _+_}
 use mathlib.Core.List.{List, [], _∷_, _++_}
-use lib.ListN.{take}
-use Rattle.wal.specs.Entry.{Entry, encoded, encodedAll, header, sizesOf}
+use Rattle.wal.specs.Entry.{Entry, sizesOf}
+use Rattle.wal.specs.Walk.{fileOf}
 use Rattle.history.specs.History.{Step, logged, restored}
 use Rattle.cases.specs.Build.{begins, commits, inserts, updates, logOf, page, area}
 use Rattle.cases.specs.Starred.{a, b, c}
@@ -15,21 +15,33 @@ abbrev pub steps : List Step
 steps =
     logged (begins 1 7) ∷ logged (updates 2 7 0 0 a b) ∷ logged (commits 3 7)
     ∷ logged (begins 4 8) ∷ logged (inserts 5 8 1 0 a)
-    ∷ logged (begins 6 9) ∷ logged (updates 7 9 0 0 b c) ∷ logged (inserts 8 9 0 1 a) ∷ restored 9
+    ∷ logged (begins 6 9) ∷ logged (updates 7 9 0 0 b c) ∷ logged (inserts 8 9 0 1 a) ∷ restored 9 0 1
     ∷ logged (begins 9 10) ∷ []
 
--- the entries of the cut
+-- the entries of the first two files
 abbrev pub whole : List Entry
 whole =
     begins 1 7 ∷ updates 2 7 0 0 a b ∷ commits 3 7 ∷ begins 4 8 ∷ inserts 5 8 1 0 a
     ∷ begins 6 9 ∷ updates 7 9 0 0 b c ∷ inserts 8 9 0 1 a ∷ []
 
-abbrev pub log : List ℕ
-log = logOf (whole ++ (begins 9 10 ∷ []))
+-- all entries of the log, and of the third file
+abbrev pub all : List Entry
+all = whole ++ (begins 9 10 ∷ [])
 
--- 20 bytes of the last entry
-abbrev pub cut : ℕ
-cut = 32 + sizesOf whole + 20
+abbrev pub log : List ℕ
+log = logOf all
+
+-- 20 bytes of the last entry, and nothing behind them
+abbrev pub torn : List ℕ
+torn = fileOf log (32 + sizesOf whole + 20) 0
+
+-- none of its bytes, and zero bytes
+abbrev pub roomy : List ℕ
+roomy = fileOf log (32 + sizesOf whole) 16
+
+-- 40 of its 43 bytes, and zero bytes: three of them complete it, four are unused
+abbrev pub completed : List ℕ
+completed = fileOf log (32 + sizesOf whole + 40) 7
 
 abbrev pub moment : ℕ → ℕ
 moment zero = 9

@@ -1,3 +1,4 @@
 pub mod Build
 pub mod Starred
 pub mod Example
+pub mod ExactEnd

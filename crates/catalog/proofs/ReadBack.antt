@@ -17,7 +17,7 @@ use Rattle.endian.proofs.Places.{part-append, number-same, number-append, numbe
 use Rattle.catalog.specs.TableRows.{tableOf, rootOf, schemaLength, nameLengthAt, nameLength, namesEnd, layoutOf, partAt, refusedRow, laid, rowBy, newestBy, rowOf, olderRowOf, nameBytes, rowBytes, rowLength, hasRoom, refusedWriting, writeAnswer, areaAfter}
 use Rattle.catalog.specs.declared.TableRow.{TableRow}
 use Rattle.refusals.specs.declared.Written.{Written}
-use Rattle.catalog.proofs.Writing.{row-written}
+use Rattle.catalog.proofs.Writing.{room-is, row-written}
 use Rattle.catalog.proofs.Forms.{laid-as, is-newest, newest-read}
 
 -- ---- an older reader
@@ -184,3 +184,11 @@ module _ (table root : ℕ) (schema name : List ℕ) (layout version : ℕ) wher
         let e = row-written table root schema name layout version area (leb-true _ _ (was-right .0)) true (sym (was-right .1)) refl in
         let n : length (rowBytes table root schema name layout version) ≡ rowLength (length schema) (length name) = ap length in-parts ∙ sizes in
         ap₂ take (sym (ap (λ (w : Written). w .length) (e .0))) (sym (e .1)) ∙ take-at (rowBytes table root schema name layout version) _ _ n
+
+    -- they read back as what was written
+    pub written-reads : table < 256 ^ 4 → root < 256 ^ 8 → version < 256 ^ 8
+        → rowOf (take (writeAnswer schema name layout area .length) (areaAfter table root schema name layout version area))
+        ≡ record { verdict = accepted; table = table; root = record { 0 = root }; schema = partAt 13 (length schema); name = partAt (14 + length schema) (length name); layout = layout; version = version }
+    written-reads ht hr hv =
+        let r = room-is (length schema) (length name) (length area) true (sym (was-right .1)) refl in
+        ap rowOf written-front ∙ read-back ht hr (r .0) (r .1) (leb-true _ _ (was-right .0)) hv

@@ -1,52 +1,59 @@
 -- Demand 3 of one slot: what wins over the slot as it stood at a moment is what the ledger of the cut says.
 -- Assumes nothing.
 use mathlib.Core.Path.{_≡_, refl, sym, ap, ap₂, _∙_}
-use Prim.Native.Nat.{ℕ, zero, suc, _+_, _≤_, _<_}
+use Prim.Native.Nat.{ℕ, _+_}
 use native.Mathlib.Omega.{arith}
 use mathlib.Core.Bool.{Bool, true, false}
 use mathlib.Core.List.{List, [], _∷_, _++_}
 use lib.ListN.{length, take, drop, take-append-drop}
 use lib.Dec.{eqb}
+use borrow.Author.Tests.{eqb-true}
 use Rattle.endian.specs.Pick.{pick}
 use Rattle.wal.specs.Entry.{Entry}
 use Rattle.rules.specs.Shape.{Change, both, isOn, slotOf, beforeOf, afterOf, effectOn}
 use Rattle.rules.specs.Mend.{winner, lastAfter, changes, topOf}
+use Rattle.rules.proofs.Tests.{both-true}
 use Rattle.rules.proofs.Slots.{changes-append, changes-past}
-use Rattle.history.specs.History.{Step, logged, restored, State, loggedIn, applied, undone, Finds, put, change, restore, run, Honest, fed}
+use Rattle.history.specs.History.{Step, logged, restored, State, loggedIn, applied, Finds, change, isAt, restore, run, Honest, fed}
 
 -- slot k of page i
 module _ (i k : ℕ) where
-  -- no change on the slot among some entries
-  abbrev Apart : List Entry → Type 0
-  Apart [] = Unit {0}
-  Apart (e ∷ es) = (effectOn i k e ≡ []) × Apart es
-
-  -- the slot holds v, and nothing is left that would take a change of it back
+  -- the slot holds v, and no change of it can be taken back
   record Quiet (v : List ℕ) (s : State) : Type 0 where
     holds : s .slot i k ≡ v
-    apart : (t : ℕ) → Apart (s .undo t)
-
-  apart-put : (f : ℕ → List Entry) (t : ℕ) (us : List Entry) → ((u : ℕ) → Apart (f u)) → Apart us → (u : ℕ) → Apart (put f t us u)
-  apart-put f t us h a u = go (eqb t u)
-    where
-      go : (b : Bool) → Apart (pick b us (f u))
-      go true = a
-      go false = h u
+    none : (t : ℕ) → s .undo t i k ≡ []
 
   quiet-change : (v : List ℕ) (s : State) (e : Entry) → effectOn i k e ≡ [] → Quiet v s → Quiet v (change s e)
-  quiet-change v s e n q =
-      record {
-        holds = rw n (q .holds);
-        apart = apart-put (s .undo) (e .txn) (e ∷ s .undo (e .txn)) (q .apart) (n, q .apart (e .txn));
-      }
+  quiet-change v s e n q = record { holds = rw n (q .holds); none = λ t. rw n (either t (eqb (e .txn) t)) }
+    where
+      either : (t : ℕ) (b : Bool) → pick b (s .undo t i k) (s .undo t i k) ≡ []
+      either t true = q .none t
+      either t false = q .none t
 
-  quiet-restore : (t : ℕ) (v : List ℕ) (s : State) (us : List Entry) → Apart us → Quiet v s → Quiet v (restore s t us)
-  quiet-restore t v s [] a q = q
-  quiet-restore t v s (e ∷ us) a q =
-      record {
-        holds = rw (a .0) (q .holds);
-        apart = apart-put (s .undo) t us (q .apart) (a .1);
-      }
+  quiet-restore : (t j m : ℕ) (v : List ℕ) (s : State) (us : List Change) → s .undo t j m ≡ us → Quiet v s → Quiet v (restore s t j m us)
+  quiet-restore t j m v s [] h q = q
+  quiet-restore t j m v s (x ∷ us) h q = record { holds = hold (isAt j m i k) refl; none = λ u. rest u (eqb t u) refl }
+    where
+      -- the slot itself has nothing to take back
+      other : isAt j m i k ≡ true → ⊥
+      other e =
+          let b = both-true (eqb j i) (eqb m k) e in
+          let ji : j ≡ i = eqb-true _ _ (b .0) in
+          let mk : m ≡ k = eqb-true _ _ (b .1) in
+          let n : s .undo t j m ≡ [] = rw (ji, mk) (q .none t) in
+          omega (arith, ap length (sym h ∙ n))
+
+      hold : (b : Bool) → isAt j m i k ≡ b → pick b (x .before) (s .slot i k) ≡ v
+      hold true e = absurd (other e)
+      hold false e = q .holds
+
+      rest : (u : ℕ) (a : Bool) → eqb t u ≡ a → pick (both a (isAt j m i k)) us (s .undo u i k) ≡ []
+      rest u true e = go (isAt j m i k) refl
+        where
+          go : (b : Bool) → isAt j m i k ≡ b → pick b us (s .undo u i k) ≡ []
+          go true d = absurd (other d)
+          go false d = q .none u
+      rest u false e = q .none u
 
   first-nil : {A : Type 0} (xs ys : List A) → xs ++ ys ≡ [] → xs ≡ []
   first-nil [] ys h = refl
@@ -62,10 +69,10 @@ module _ (i k : ℕ) where
   quiet-run v s [] n q = q
   quiet-run v s (logged e ∷ steps) n q =
       quiet-run v (change s e) steps (second-nil (effectOn i k e) _ n) (quiet-change v s e (first-nil (effectOn i k e) _ n) q)
-  quiet-run v s (restored t ∷ steps) n q = quiet-run v (restore s t (s .undo t)) steps n (quiet-restore t v s (s .undo t) (q .apart t) q)
+  quiet-run v s (restored t j m ∷ steps) n q = quiet-run v (restore s t j m (s .undo t j m)) steps n (quiet-restore t j m v s (s .undo t j m) refl q)
 
-  pub untouched : (s : State) (steps : List Step) → ((t : ℕ) → s .undo t ≡ []) → changes i k (loggedIn steps) ≡ [] → run s steps .slot i k ≡ s .slot i k
-  untouched s steps none n = quiet-run (s .slot i k) s steps n (record { holds = refl; apart = λ t. rw (none t) tt }) .holds
+  pub untouched : (s : State) (steps : List Step) → ((t : ℕ) → s .undo t i k ≡ []) → changes i k (loggedIn steps) ≡ [] → run s steps .slot i k ≡ s .slot i k
+  untouched s steps none n = quiet-run (s .slot i k) s steps n (record { holds = refl; none = none }) .holds
 
   -- the first change on the slot finds what it held at first
   first-before : (named : ℕ → Type 0) (v : List ℕ) (s : State) (steps : List Step) (x : Change) (xs : List Change) → named i → Honest named s steps → changes i k (loggedIn steps) ≡ x ∷ xs → Quiet v s → x .before ≡ v
@@ -80,8 +87,8 @@ module _ (i k : ℕ) where
       go (y ∷ ys) m a f later =
           let yx : y ≡ x = cc in
           ap (λ (z : Change). z .before) (sym yx) ∙ sym (f .0) ∙ q .holds
-  first-before named v s (restored t ∷ steps) x xs at h n q =
-      first-before named v (restore s t (s .undo t)) steps x xs at h n (quiet-restore t v s (s .undo t) (q .apart t) q)
+  first-before named v s (restored t j m ∷ steps) x xs at h n q =
+      first-before named v (restore s t j m (s .undo t j m)) steps x xs at h n (quiet-restore t j m v s (s .undo t j m) refl q)
 
   -- ---- the ledger keeps the after-image of the last committed change
 
@@ -122,15 +129,15 @@ module _ (i k : ℕ) where
   logged-append : (xs ys : List Step) → loggedIn (xs ++ ys) ≡ loggedIn xs ++ loggedIn ys
   logged-append [] ys = refl
   logged-append (logged e ∷ xs) ys = ap (λ (l : List Entry). e ∷ l) (logged-append xs ys)
-  logged-append (restored t ∷ xs) ys = logged-append xs ys
+  logged-append (restored t j m ∷ xs) ys = logged-append xs ys
 
-  pub slot-recovers : (named : ℕ → Type 0) → named i → (s : State) (steps : List Step) (m : ℕ) (c : ℕ → Bool) (es zs : List Entry) → ((t : ℕ) → s .undo t ≡ []) → Honest named s steps
+  pub slot-recovers : (named : ℕ → Type 0) → named i → (s : State) (steps : List Step) (m : ℕ) (c : ℕ → Bool) (es zs : List Entry) → ((t : ℕ) → s .undo t i k ≡ []) → Honest named s steps
       → es ++ zs ≡ loggedIn steps → topOf i (drop (length es) (loggedIn (take m steps))) ≡ 0
       → winner c (changes i k es) (run s (take m steps) .slot i k) ≡ lastAfter c (changes i k es) (s .slot i k)
   slot-recovers named at s steps m c es zs none h cut felt = go (changes i k es) refl
     where
       start : Quiet (s .slot i k) s
-      start = record { holds = refl; apart = λ t. rw (none t) tt }
+      start = record { holds = refl; none = none }
 
       A : List Entry
       A = loggedIn (take m steps)

@@ -14,7 +14,7 @@ use Rattle.wal.specs.Walk.{viewsFrom, entries, endOf, endingOf}
 use Rattle.wal.specs.Prefix.{entryIn, said, Met, Stands, before, onward}
 use Rattle.wal.specs.declared.EntryView.{EntryView}
 use Rattle.wal.specs.declared.Reading.{Reading}
-use Rattle.wal.specs.declared.Reading.the-variants.{Whole, End, Torn, Damage}
+use Rattle.wal.specs.declared.Reading.the-variants.{Whole, End, Torn, Unused, Damage}
 use Rattle.wal.proofs.Reading.{the-type}
 use Rattle.wal.proofs.WalkLaws.{EntryAt, entry-at, stops}
 use Rattle.wal.proofs.Places.{size-of}
@@ -39,6 +39,7 @@ told-end : (r : Reading) (at : ℕ) → told (endNumber r) at ≡ endVerdict r a
 told-end (Whole v) at = refl
 told-end End at = refl
 told-end Torn at = refl
+told-end Unused at = refl
 told-end Damage at = refl
 
 module _ (full : ℕ → Bool) (s : List ℕ) where
@@ -158,7 +159,7 @@ module _ (full : ℕ → Bool) (s : List ℕ) where
 
   -- the end of the log
   module _ {hints highs : List ℕ} {at last begins : ℕ} (w : Walking full s hints highs at last begins) where
-    pub walked-end : (r : Reading) → r ≡ readAt s at → OneOf (1 ∷ 2 ∷ 3 ∷ []) (tagOf the-type r) → (n : ℕ) → n ≡ endNumber r → FirstWalk full s (record { number = n; place = at; last = record { 0 = last } })
+    pub walked-end : (r : Reading) → r ≡ readAt s at → OneOf (1 ∷ 2 ∷ 3 ∷ 4 ∷ []) (tagOf the-type r) → (n : ℕ) → n ≡ endNumber r → FirstWalk full s (record { number = n; place = at; last = record { 0 = last } })
     unfolding onward basicFrom passed
     walked-end r q k n z =
         let none : viewsFrom s at ≡ [] = stops s at r q k in

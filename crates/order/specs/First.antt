@@ -10,7 +10,7 @@ use Rattle.wal.specs.Read.{first}
 use Rattle.wal.specs.Walk.{entries, endOf, endingOf}
 use Rattle.wal.specs.Prefix.{Met, before}
 use Rattle.wal.specs.declared.Reading.{Reading}
-use Rattle.wal.specs.declared.Reading.the-variants.{Whole, End, Torn, Damage}
+use Rattle.wal.specs.declared.Reading.the-variants.{Whole, End, Torn, Unused, Damage}
 use Rattle.refusals.specs.Verdict.{verdict, accepted, _then_}
 use Rattle.refusals.specs.declared.Verdict.{Verdict}
 use Rattle.rules.specs.Shape.{both}
@@ -32,6 +32,7 @@ abbrev pub endNumber : Reading → ℕ
 endNumber (Whole v) = 0
 endNumber End = 0
 endNumber Torn = 0
+endNumber Unused = 0
 endNumber Damage = entryDamaged
 
 -- what the first walk finds: where it stops, the last LSN before that place, and the fault there, if any

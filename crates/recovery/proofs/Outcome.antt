@@ -7,7 +7,8 @@ use lib.ListN.{length}
 use lib.Dec.{eqb}
 use borrow.Author.Tests.{eq-eqb, ne-eqb}
 use Rattle.wal.specs.Entry.{Entry}
-use Rattle.wal.specs.Walk.{entries, endOf}
+use Rattle.wal.specs.Walk.{entries, endOf, endingOf, endingNumber}
+use Rattle.wal.specs.declared.Reading.the-variants.{Damage}
 use Rattle.page.specs.Layout.{pageBytes, dataType, pagesIn, pageAt, typeOf}
 use Rattle.refusals.specs.Verdict.{verdict, accepted}
 use Rattle.refusals.specs.declared.Verdict.{Verdict}
@@ -15,7 +16,7 @@ use Rattle.rules.specs.Order.{count, isBegin, fullAt, lastLsn}
 use Rattle.rules.specs.Recover.{recoverVerdict, tableAfter, touchedFrom, mendedFrom, refused, done, Recovered, recoverBy, recoverOf}
 use Rattle.rules.specs.declared.Answer.{Answer}
 use Rattle.rules.specs.declared.Record.{Record}
-use Rattle.rules.proofs.Verdicts.{is-accepted}
+use Rattle.rules.proofs.Verdicts.{log-undamaged, is-accepted}
 use Rattle.order.specs.declared.Walked.{Walked}
 use Rattle.fates.specs.Fate.{Ordered}
 use Rattle.tally.specs.Counts.{tallyOf}
@@ -37,12 +38,12 @@ module _ (v : Verdict) (pages log : List ℕ) (table : List Record) where
   by-refused h = rw (ne-eqb (v .number) 0 h)
 
   pub by-done : v .number ≡ 0 → recoverBy v pages log table
-      ≡ record { answer = done (entries log) (endOf log) (pagesIn pages); pages = mendedFrom (entries log) pages (pagesIn pages) 0; table = tableAfter (entries log) table }
+      ≡ record { answer = done (entries log) (endOf log) (endingNumber (endingOf log)) (pagesIn pages); pages = mendedFrom (entries log) pages (pagesIn pages) 0; table = tableAfter (entries log) table }
   by-done h = rw (eq-eqb (v .number) 0 h)
 
-pub done-is : (es : List Entry) (end n : ℕ) → answerFrom (record { 0 = lastLsn es }) end (tallyOf es) (touchedFrom es n 0) ≡ done es end n
+pub done-is : (es : List Entry) (end way n : ℕ) → answerFrom (record { 0 = lastLsn es }) end way (tallyOf es) (touchedFrom es n 0) ≡ done es end way n
 unfolding done tallyOf
-done-is es end n = refl
+done-is es end way n = refl
 
 -- ---- a judgement
 
@@ -58,11 +59,11 @@ module _ {full : ℕ → Bool} {magic floor : ℕ} {pages log starts lasts : Lis
         × (pages ≡ recoverBy (recoverVerdict full (lent magic floor pages log)) pages log table .pages)
     run-refused h = rw (verdict-refused h, by-refused (verdict (w .number) (w .place)) pages log table h) (refl, refl)
 
-    pub run-done : w .number ≡ 0 → (answerFrom (w .last) (w .place) (tallyOf (entries log)) (touchedFrom (entries log) (pagesIn pages) 0) ≡ recoverBy (recoverVerdict full (lent magic floor pages log)) pages log table .answer)
+    pub run-done : w .number ≡ 0 → (answerFrom (w .last) (w .place) (endingNumber (endingOf log)) (tallyOf (entries log)) (touchedFrom (entries log) (pagesIn pages) 0) ≡ recoverBy (recoverVerdict full (lent magic floor pages log)) pages log table .answer)
         × (mendedFrom (entries log) pages (pagesIn pages) 0 ≡ recoverBy (recoverVerdict full (lent magic floor pages log)) pages log table .pages)
     run-done z =
         let l : w .last ≡ record { 0 = lastLsn (entries log) } = ap (λ (n : ℕ). record { 0 = n }) (j .last z) in
-        rw (by-done (recoverVerdict full (lent magic floor pages log)) pages log table (verdict-zero z)) (rw (l, j .end z) (done-is (entries log) (endOf log) (pagesIn pages)), refl)
+        rw (by-done (recoverVerdict full (lent magic floor pages log)) pages log table (verdict-zero z)) (rw (l, j .end z) (done-is (entries log) (endOf log) (endingNumber (endingOf log)) (pagesIn pages)), refl)
 
 -- ---- what acceptance tells
 
@@ -77,6 +78,7 @@ pub record Sure (log pages : List ℕ) : Type 0 where
   pub few : pagesIn pages ≤ 4096
   pub touched : Touched log pages 0 (pagesIn pages)
   pub fitting : Fitting log pages 0 (pagesIn pages)
+  pub undamaged : endingOf log ≡ Damage → ⊥
 
 pub sure : (full : ℕ → Bool) (magic floor : ℕ) (pages log : List ℕ) → recoverVerdict full (lent magic floor pages log) .number ≡ 0 → Sure log pages
 sure full magic floor pages log h =
@@ -89,6 +91,7 @@ sure full magic floor pages log h =
       few = z .1;
       touched = record { at = λ i l m t. let k = a .onData i t in sound-page full magic floor pages log h i (k .within) (k .isData) };
       fitting = record { at = λ i l m t. a .roomy i m t };
+      undamaged = log-undamaged full log (a .logOk);
     }
 
 -- ---- the answer, and a table of numbers
@@ -115,11 +118,11 @@ module _ (v : Verdict) (pages log : List ℕ) where
   pub answer-refused : (t : List Record) → (recoverBy v pages log t .answer .number ≡ 0 → ⊥) → v .number ≡ 0 → ⊥
   answer-refused t h z = h (ap (λ (r : Recovered). r .answer .number) (by-done v pages log t z) ∙ done-number)
     where
-      done-number : done (entries log) (endOf log) (pagesIn pages) .number ≡ 0
-      done-number = ap (λ (a : Answer). a .number) (sym (done-is (entries log) (endOf log) (pagesIn pages)))
+      done-number : done (entries log) (endOf log) (endingNumber (endingOf log)) (pagesIn pages) .number ≡ 0
+      done-number = ap (λ (a : Answer). a .number) (sym (done-is (entries log) (endOf log) (endingNumber (endingOf log)) (pagesIn pages)))
 
   pub answer-tail : (t : List Record) → v .number ≡ 0 → recoverBy v pages log t .answer .tail ≡ endOf log
-  answer-tail t z = ap (λ (r : Recovered). r .answer .tail) (by-done v pages log t z) ∙ ap (λ (a : Answer). a .tail) (sym (done-is (entries log) (endOf log) (pagesIn pages)))
+  answer-tail t z = ap (λ (r : Recovered). r .answer .tail) (by-done v pages log t z) ∙ ap (λ (a : Answer). a .tail) (sym (done-is (entries log) (endOf log) (endingNumber (endingOf log)) (pagesIn pages)))
 
 -- what the records of an accepted log ask of a table
 pub begins-of : (records magic floor : ℕ) (pages log : List ℕ) → recoverVerdict (fullAt records) (lent magic floor pages log) .number ≡ 0 → count isBegin (entries log) ≤ records

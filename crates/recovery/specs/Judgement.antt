@@ -34,9 +34,9 @@ pub record Gathered (pages log lists fronts space : List ℕ) (r : Judged) : Typ
   pub listed : r .walked .number ≡ 0 → Listed log (pagesIn pages) fronts space
   pub counts : r .walked .number ≡ 0 → r .tally ≡ tallyOf (entries log)
 
--- the answer of a recovery that is done: last LSN, end of the log, counts, pages rewritten
-abbrev pub answerFrom : Lsn → ℕ → Tally → ℕ → Answer
-answerFrom last end c rewritten =
+-- the answer of a recovery that is done: last LSN, end of the log and how it ends, counts, pages rewritten
+abbrev pub answerFrom : Lsn → ℕ → ℕ → Tally → ℕ → Answer
+answerFrom last end ending c rewritten =
     record {
       number = 0;
       place = 0;
@@ -50,4 +50,5 @@ answerFrom last end c rewritten =
       «changes_unended» = c .«changes_unended»;
       «changes_zero» = c .«changes_zero»;
       rewritten = rewritten;
+      ending = ending;
     }

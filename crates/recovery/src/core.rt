@@ -16,6 +16,7 @@ use order::Walked;
 use page::PAGE_BYTES;
 use rules::Answer;
 use tally::Tally;
+use wal::inner::ending_at;
 
 // The answer of a refusal.
 fn refused_by(number: u64, place: u64) -> Answer
@@ -34,12 +35,13 @@ fn refused_by(number: u64, place: u64) -> Answer
         changes_unended: 0,
         changes_zero: 0,
         rewritten: 0,
+        ending: 0,
     }
 }
 
 // The answer of a recovery that is done.
-fn done_by(last: Lsn, end: usize, c: Tally, rewritten: u64) -> Answer
-    ensures { λ r. ⌜ r ≡ answerFrom last end c rewritten ⌝ }
+fn done_by(last: Lsn, end: usize, ending: u64, c: Tally, rewritten: u64) -> Answer
+    ensures { λ r. ⌜ r ≡ answerFrom last end ending c rewritten ⌝ }
 {
     Answer {
         number: 0,
@@ -54,6 +56,7 @@ fn done_by(last: Lsn, end: usize, c: Tally, rewritten: u64) -> Answer
         changes_unended: c.changes_unended,
         changes_zero: c.changes_zero,
         rewritten: rewritten,
+        ending: ending,
     }
 }
 
@@ -95,7 +98,8 @@ fn run(
     }
     let n = pages.len() / PAGE_BYTES;
     let rewritten = mend_all(t, log, pages, n, starts, lasts, lists, fronts, space);
-    done_by(w.last, w.place, j.tally, rewritten)
+    let ending = ending_at(log, w.place);
+    done_by(w.last, w.place, ending, j.tally, rewritten)
 }
 
 // Recovery for a table of so many records, which is not written.

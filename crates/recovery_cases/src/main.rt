@@ -47,6 +47,7 @@ fn show_answer(a: Answer) {
     number(b" at ", a.place);
     number(b", last ", last.0);
     number(b", tail ", a.tail);
+    number(b" ending ", a.ending);
     number(b", transactions ", a.committed);
     number(b" ", a.rolled_back);
     number(b" ", a.unended);
@@ -174,6 +175,15 @@ fn both(name: &[u8], p: [u8; 32768], log: &[u8]) {
 
 // ---- the cases
 
+// A Begin with zero bytes behind it.
+fn roomy(mut log: [u8; 100]) {
+    first(b"and 3 zero bytes", &log, 78);
+    first(b"and 4 zero bytes", &log, 79);
+    first(b"and 25 zero bytes", &log, 100);
+    log[99] = 1;
+    first(b"and 25 bytes, the last one 1", &log, 100);
+}
+
 fn ends() {
     let mut log = [0u8; 100];
     put_header(&mut log);
@@ -182,6 +192,7 @@ fn ends() {
     bare(&mut log, Lsn(1), Txn(7), BEGIN);
     first(b"42 bytes of a Begin", &log, 74);
     first(b"a Begin", &log, 75);
+    roomy(log);
     put_u32(&mut log, 32, 42);
     first(b"length 42", &log, 70);
     read(b"length 42", &empty(), used(&log), Page(0), 0);

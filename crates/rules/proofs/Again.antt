@@ -1,5 +1,5 @@
--- Recovery again: from pages of which each is as it was or as an earlier run, from a shorter cut, left it, the run from the longer cut is
--- accepted as it was, and ends in the same bytes. Of any pages and any log.
+-- Recovery again: from pages of which each is as it was or as an earlier run left it, the run from a log that begins with the earlier log's entries is
+-- accepted as it was, and ends in the same bytes. Of any pages and any two logs.
 -- Assumes nothing.
 use mathlib.Core.Path.{_≡_, refl, sym, ap, _∙_, subst}
 use mathlib.Core.Logic.{_⊎_, inl, inr, ⊎-elim}
@@ -7,16 +7,15 @@ use mathlib.Core.Bool.{Bool, true, false}
 use Prim.Native.Nat.{ℕ, _+_, _*_, _/_, _^_, _≤_, _<_}
 use native.Mathlib.Omega.{arith}
 use native.Mathlib.Nat.{zero-add}
-use mathlib.Core.List.{List, [], _++_}
-use lib.ListN.{length, take}
+use mathlib.Core.List.{List, [], _++_, append-nil}
+use lib.ListN.{length}
 use lib.Dec.{eqb}
 use borrow.Author.Tests.{eq-eqb, eqb-true}
 use Rattle.endian.specs.Numbers.{Bytes}
 use Rattle.endian.proofs.Bytes.{bytes-take, bytes-drop}
 use Rattle.wal.specs.Entry.{Entry}
 use Rattle.wal.specs.Read.{headerFault, readAt, first}
-use Rattle.wal.specs.Walk.{entries, endOf}
-use Rattle.wal.proofs.Cuts.{cut-entries}
+use Rattle.wal.specs.Walk.{entries, endOf, endingOf, endingNumber}
 use Rattle.page.specs.Layout.{pageBytes, pagesIn, pageAt, slotAt}
 use Rattle.page.specs.Good.{TupleGood}
 use Rattle.refusals.specs.Verdict.{verdict, _then_}
@@ -51,7 +50,7 @@ answer-zero v pages log table h = go (eqb (v .number) 0) refl h
 -- the two ways of recovery
 module _ (magic floor : ℕ) (pages log : List ℕ) (table : List Record) where
   pub recover-done : recoverVerdict (fullAt (length table)) (lent magic floor pages log) .number ≡ 0
-      → (recoverOf (lent magic floor pages log) table .answer ≡ done (entries log) (endOf log) (pagesIn pages))
+      → (recoverOf (lent magic floor pages log) table .answer ≡ done (entries log) (endOf log) (endingNumber (endingOf log)) (pagesIn pages))
       × (recoverOf (lent magic floor pages log) table .pages ≡ mendedFrom (entries log) pages (pagesIn pages) 0)
   unfolding recoverOf
   recover-done h = rw (eq-eqb _ _ h) (refl, refl)
@@ -104,37 +103,34 @@ page-accepts full magic floor pages log a i l =
       hasRoom = a .roomy i l;
     }
 
-module _ (full : ℕ → Bool) (magic floor₁ floor : ℕ) (P L : List ℕ) (bP : Bytes P) (bL : Bytes L) (c₁ c₂ : ℕ) (le : c₁ ≤ c₂)
-    (A₁ : Accepted full magic floor₁ P (take c₁ L)) (A₂ : Accepted full magic floor P (take c₂ L)) where
+module _ (full : ℕ → Bool) (magic floor₁ floor : ℕ) (P L₁ L₂ : List ℕ) (bP : Bytes P) (b₁ : Bytes L₁) (b₂ : Bytes L₂) (longer : (fs : List Entry) × (entries L₁ ++ fs ≡ entries L₂))
+    (A₁ : Accepted full magic floor₁ P L₁) (A₂ : Accepted full magic floor P L₂) where
   abbrev E₁ : List Entry
-  E₁ = entries (take c₁ L)
+  E₁ = entries L₁
 
   abbrev E₂ : List Entry
-  E₂ = entries (take c₂ L)
-
-  longer : (fs : List Entry) × (E₁ ++ fs ≡ E₂)
-  longer = cut-entries L c₁ c₂ le
+  E₂ = entries L₂
 
   tuples : (i k : ℕ) → Images TupleGood (changes i k E₁)
-  tuples = tuple-images full E₁ (log-in-turn full (take c₁ L) (A₁ .logOk))
+  tuples = tuple-images full E₁ (log-in-turn full L₁ (A₁ .logOk))
 
   bytes : (i k : ℕ) → Images Bytes (changes i k E₁)
-  bytes i k = images-of Bytes i k E₁ (every-map InRange (λ e. isChange e ≡ true → Bytes (beforeOf e) × Bytes (afterOf e)) (λ e r c. images-bytes e r) E₁ (in-range (take c₁ L) (bytes-take c₁ bL)))
+  bytes i k = images-of Bytes i k E₁ (every-map InRange (λ e. isChange e ≡ true → Bytes (beforeOf e) × Bytes (afterOf e)) (λ e r c. images-bytes e r) E₁ (in-range L₁ b₁))
 
   lsns : (i : ℕ) → lastOn i E₂ ≤ lastLsn E₂
-  lsns i = last-bounds full i [] E₂ (log-in-turn full (take c₂ L) (A₂ .logOk)) .1
+  lsns i = last-bounds full i [] E₂ (log-in-turn full L₂ (A₂ .logOk)) .1
 
   small : lastLsn E₂ < 2 ^ 64
-  small = last-small (2 ^ 64) E₂ (omega arith) (every-map InRange (λ e. e .lsn < 2 ^ 64) (λ e r. r .lsn) E₂ (in-range (take c₂ L) (bytes-take c₂ bL)))
+  small = last-small (2 ^ 64) E₂ (omega arith) (every-map InRange (λ e. e .lsn < 2 ^ 64) (λ e r. r .lsn) E₂ (in-range L₂ b₂))
 
   -- a page mended by the shorter cut is accepted by the longer, which mends it as it mends the page itself
   one-page : (i : ℕ) → i < pagesIn P
       → Accepts (committed E₂) magic floor (lastLsn E₂) E₂ i (mend E₁ i (pageAt i P)) × (mend E₂ i (mend E₁ i (pageAt i P)) ≡ mend E₂ i (pageAt i P))
   unfolding mend
-  one-page i l = go E₂ (longer .1) (page-accepts full magic floor P (take c₂ L) A₂ i l) (lsns i) small
+  one-page i l = go E₂ (longer .1) (page-accepts full magic floor P L₂ A₂ i l) (lsns i) small
     where
       a₁ : Accepts (committed E₁) magic floor₁ (lastLsn E₁) E₁ i (pageAt i P)
-      a₁ = page-accepts full magic floor₁ P (take c₁ L) A₁ i l
+      a₁ = page-accepts full magic floor₁ P L₁ A₁ i l
 
       b : Bytes (pageAt i P)
       b = bytes-take pageBytes (bytes-drop (i * pageBytes) bP)
@@ -162,7 +158,7 @@ module _ (full : ℕ → Bool) (magic floor₁ floor : ℕ) (P L : List ℕ) (bP
     page-q i l = go (each i l)
       where
         go : (pageAt i Q ≡ pageAt i P) ⊎ (pageAt i Q ≡ mend E₁ i (pageAt i P)) → Accepts (committed E₂) magic floor (lastLsn E₂) E₂ i (pageAt i Q)
-        go (inl e) = subst (λ (q : List ℕ). Accepts (committed E₂) magic floor (lastLsn E₂) E₂ i q) (sym e) (page-accepts full magic floor P (take c₂ L) A₂ i l)
+        go (inl e) = subst (λ (q : List ℕ). Accepts (committed E₂) magic floor (lastLsn E₂) E₂ i q) (sym e) (page-accepts full magic floor P L₂ A₂ i l)
         go (inr e) = subst (λ (q : List ℕ). Accepts (committed E₂) magic floor (lastLsn E₂) E₂ i q) (sym e) (one-page i l .0)
 
     mend-q : (i : ℕ) → i < pagesIn P → mend E₂ i (pageAt i Q) ≡ mend E₂ i (pageAt i P)
@@ -172,7 +168,7 @@ module _ (full : ℕ → Bool) (magic floor₁ floor : ℕ) (P L : List ℕ) (bP
         go (inl e) = ap (mend E₂ i) e
         go (inr e) = ap (mend E₂ i) e ∙ one-page i l .1
 
-    again-accepted : Accepted full magic floor Q (take c₂ L)
+    again-accepted : Accepted full magic floor Q L₂
     unfolding sizeWrong
     again-accepted =
         record {
@@ -190,39 +186,39 @@ module _ (full : ℕ → Bool) (magic floor₁ floor : ℕ) (P L : List ℕ) (bP
     again-pages : mendedFrom E₂ Q (pagesIn Q) 0 ≡ mendedFrom E₂ P (pagesIn P) 0
     again-pages = ap (λ (n : ℕ). mendedFrom E₂ Q n 0) count-same ∙ mended-alike E₂ Q P (pagesIn P) 0 (λ k a b. mend-q k (omega arith))
 
--- the theorem, of any pages and any log
-module _ (magic floor₁ floor : ℕ) (P L : List ℕ) (bP : Bytes P) (bL : Bytes L) (c₁ c₂ : ℕ) (le : c₁ ≤ c₂) (T₁ T₂ T₃ : List Record)
-    (t₁ : length T₁ ≡ length T₂) (t₃ : length T₃ ≡ length T₂) (ok : recoverOf (lent magic floor P (take c₂ L)) T₂ .answer .number ≡ 0)
+-- the theorem, of any pages and any two logs of which one begins with the other's entries
+module _ (magic floor₁ floor : ℕ) (P L₁ L₂ : List ℕ) (bP : Bytes P) (b₁ : Bytes L₁) (b₂ : Bytes L₂) (longer : (fs : List Entry) × (entries L₁ ++ fs ≡ entries L₂)) (T₁ T₂ T₃ : List Record)
+    (t₁ : length T₁ ≡ length T₂) (t₃ : length T₃ ≡ length T₂) (ok : recoverOf (lent magic floor P L₂) T₂ .answer .number ≡ 0)
     (Q : List ℕ) (same : length Q ≡ length P)
-    (each : (i : ℕ) → i < pagesIn P → (pageAt i Q ≡ pageAt i P) ⊎ (pageAt i Q ≡ pageAt i (recoverOf (lent magic floor₁ P (take c₁ L)) T₁ .pages))) where
-  A : Accepted (fullAt (length T₂)) magic floor P (take c₂ L)
-  A = zero-accepted magic floor P (take c₂ L) T₂ ok
+    (each : (i : ℕ) → i < pagesIn P → (pageAt i Q ≡ pageAt i P) ⊎ (pageAt i Q ≡ pageAt i (recoverOf (lent magic floor₁ P L₁) T₁ .pages))) where
+  A : Accepted (fullAt (length T₂)) magic floor P L₂
+  A = zero-accepted magic floor P L₂ T₂ ok
 
   abbrev Ends : Type 0
-  Ends = (recoverOf (lent magic floor Q (take c₂ L)) T₃ .answer ≡ recoverOf (lent magic floor P (take c₂ L)) T₂ .answer)
-      × (recoverOf (lent magic floor Q (take c₂ L)) T₃ .pages ≡ recoverOf (lent magic floor P (take c₂ L)) T₂ .pages)
+  Ends = (recoverOf (lent magic floor Q L₂) T₃ .answer ≡ recoverOf (lent magic floor P L₂) T₂ .answer)
+      × (recoverOf (lent magic floor Q L₂) T₃ .pages ≡ recoverOf (lent magic floor P L₂) T₂ .pages)
 
-  -- from an accepted first run; a refused one left every page as it was, so the longer cut itself serves as the shorter
-  ends : (c f : ℕ) → c ≤ c₂ → Accepted (fullAt (length T₂)) magic f P (take c L)
-      → ((i : ℕ) → i < pagesIn P → (pageAt i Q ≡ pageAt i P) ⊎ (pageAt i Q ≡ mend (entries (take c L)) i (pageAt i P))) → Ends
-  ends c f l a h =
+  -- from an accepted first run; a refused one left every page as it was, so the longer log itself serves as the shorter
+  ends : (L : List ℕ) (f : ℕ) → Bytes L → (fs : List Entry) × (entries L ++ fs ≡ entries L₂) → Accepted (fullAt (length T₂)) magic f P L
+      → ((i : ℕ) → i < pagesIn P → (pageAt i Q ≡ pageAt i P) ⊎ (pageAt i Q ≡ mend (entries L) i (pageAt i P))) → Ends
+  ends L f b l a h =
       let n : pagesIn Q ≡ pagesIn P = ap (λ (n : ℕ). n / pageBytes) same in
-      let acc = again-accepted (fullAt (length T₂)) magic f floor P L bP bL c c₂ l a A Q same h in
-      let v : recoverVerdict (fullAt (length T₃)) (lent magic floor Q (take c₂ L)) .number ≡ 0 = rw t₃ (accepted-is (fullAt (length T₂)) magic floor Q (take c₂ L) acc) in
-      let d = recover-done magic floor Q (take c₂ L) T₃ v in
-      let e = recover-done magic floor P (take c₂ L) T₂ (recover-zero magic floor P (take c₂ L) T₂ ok) in (
-        d .0 ∙ ap (done (entries (take c₂ L)) (endOf (take c₂ L))) n ∙ sym (e .0),
-        d .1 ∙ again-pages (fullAt (length T₂)) magic f floor P L bP bL c c₂ l a A Q same h ∙ sym (e .1),
+      let acc = again-accepted (fullAt (length T₂)) magic f floor P L L₂ bP b b₂ l a A Q same h in
+      let v : recoverVerdict (fullAt (length T₃)) (lent magic floor Q L₂) .number ≡ 0 = rw t₃ (accepted-is (fullAt (length T₂)) magic floor Q L₂ acc) in
+      let d = recover-done magic floor Q L₂ T₃ v in
+      let e = recover-done magic floor P L₂ T₂ (recover-zero magic floor P L₂ T₂ ok) in (
+        d .0 ∙ ap (done (entries L₂) (endOf L₂) (endingNumber (endingOf L₂))) n ∙ sym (e .0),
+        d .1 ∙ again-pages (fullAt (length T₂)) magic f floor P L L₂ bP b b₂ l a A Q same h ∙ sym (e .1),
       )
 
   pub again : Ends
-  again = go (eqb (recoverVerdict (fullAt (length T₁)) (lent magic floor₁ P (take c₁ L)) .number) 0) refl
+  again = go (eqb (recoverVerdict (fullAt (length T₁)) (lent magic floor₁ P L₁) .number) 0) refl
     where
-      go : (b : Bool) → eqb (recoverVerdict (fullAt (length T₁)) (lent magic floor₁ P (take c₁ L)) .number) 0 ≡ b → Ends
+      go : (b : Bool) → eqb (recoverVerdict (fullAt (length T₁)) (lent magic floor₁ P L₁) .number) 0 ≡ b → Ends
       go true e =
-          let v : recoverVerdict (fullAt (length T₁)) (lent magic floor₁ P (take c₁ L)) .number ≡ 0 = eqb-true _ _ e in
-          let a : Accepted (fullAt (length T₁)) magic floor₁ P (take c₁ L) = is-accepted (fullAt (length T₁)) magic floor₁ P (take c₁ L) v in
-          ends c₁ floor₁ le (rw t₁ at a) (λ i l. ⊎-elim {C = (pageAt i Q ≡ pageAt i P) ⊎ (pageAt i Q ≡ mend (entries (take c₁ L)) i (pageAt i P))} (λ h. inl h) (λ h. inr (h ∙ page-after magic floor₁ P (take c₁ L) T₁ a i l)) (each i l))
+          let v : recoverVerdict (fullAt (length T₁)) (lent magic floor₁ P L₁) .number ≡ 0 = eqb-true _ _ e in
+          let a : Accepted (fullAt (length T₁)) magic floor₁ P L₁ = is-accepted (fullAt (length T₁)) magic floor₁ P L₁ v in
+          ends L₁ floor₁ b₁ longer (rw t₁ at a) (λ i l. ⊎-elim {C = (pageAt i Q ≡ pageAt i P) ⊎ (pageAt i Q ≡ mend (entries L₁) i (pageAt i P))} (λ h. inl h) (λ h. inr (h ∙ page-after magic floor₁ P L₁ T₁ a i l)) (each i l))
       go false e =
-          let p : recoverOf (lent magic floor₁ P (take c₁ L)) T₁ .pages ≡ P = ap (λ (r : Recovered). r .pages) (recover-refused magic floor₁ P (take c₁ L) T₁ e) in
-          ends c₂ floor (omega arith) A (λ i l. inl (⊎-elim {C = pageAt i Q ≡ pageAt i P} (λ h. h) (λ h. h ∙ ap (pageAt i) p) (each i l)))
+          let p : recoverOf (lent magic floor₁ P L₁) T₁ .pages ≡ P = ap (λ (r : Recovered). r .pages) (recover-refused magic floor₁ P L₁ T₁ e) in
+          ends L₂ floor b₂ ([], append-nil (entries L₂)) A (λ i l. inl (⊎-elim {C = pageAt i Q ≡ pageAt i P} (λ h. h) (λ h. h ∙ ap (pageAt i) p) (each i l)))

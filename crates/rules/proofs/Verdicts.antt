@@ -12,8 +12,9 @@ use lib.Dec.{ltb, leb, eqb}
 use borrow.Author.Tests.{not-false, ltb-true, ltb-false, leb-true, leb-false, eqb-true, eqb-false, lt-ltb, le-ltb, le-leb, lt-leb, eq-eqb, ne-eqb}
 use Rattle.endian.specs.Pick.{pick}
 use Rattle.wal.specs.Entry.{Entry, sizeOf}
-use Rattle.wal.specs.Read.{first}
-use Rattle.wal.specs.Walk.{entries}
+use Rattle.wal.specs.Read.{headerFault, first}
+use Rattle.wal.specs.Walk.{entries, endOf, endingOf}
+use Rattle.wal.specs.declared.Reading.the-variants.{Damage}
 use Rattle.page.specs.Layout.{pageBytes, bodyBytes, dataType, pagesIn, pageAt, typeOf, lsnOf}
 use Rattle.page.specs.Packed.{roomFor}
 use Rattle.page.specs.Good.{Good}
@@ -24,7 +25,7 @@ use Rattle.page.specs.declared.Fault.the-variants.{Sound}
 use Rattle.page.proofs.Verdicts.{page-fine, fine-page}
 use Rattle.refusals.proofs.Then.{then-zero, zero-then}
 use Rattle.rules.specs.Shape.{both, either, isChange, pageOf, slotOf, isOn, topOn}
-use Rattle.rules.specs.Order.{lastLsn, logVerdict}
+use Rattle.rules.specs.Order.{lastLsn, orderFrom, endVerdict, logVerdict}
 use Rattle.rules.specs.Mend.{committed, topOf, slotsFor, Accepts}
 use Rattle.rules.specs.Recover.{pagesFrom, isStray, strayFrom, isTouched, isTight, tightFrom, recoverVerdict}
 use Rattle.rules.proofs.Tests.{both-true, either-false, false-true}
@@ -35,6 +36,17 @@ use Rattle.rules.specs.Lent.{lent}
 unrefused : (b : Bool) (v w : Verdict) → (v .number ≡ 0 → ⊥) → pick b v w .number ≡ 0 → (b ≡ false) × (w .number ≡ 0)
 unrefused true v w n h = absurd (n h)
 unrefused false v w n h = (refl, h)
+
+-- ---- the log
+
+-- an accepted one does not end in damage
+pub log-undamaged : (full : ℕ → Bool) (s : List ℕ) → logVerdict full s .number ≡ 0 → endingOf s ≡ Damage → ⊥
+unfolding logVerdict
+log-undamaged full s h d =
+    let a = then-zero (verdict (headerFault s) 0) _ h in
+    let b = then-zero (orderFrom full [] (entries s) first) (endVerdict (endingOf s) (endOf s)) (a .1) in
+    let n : endVerdict (endingOf s) (endOf s) .number ≡ 4 = rw d in
+    omega (arith, b .1)
 
 -- ---- pages
 

@@ -10,7 +10,7 @@ use Rattle.wal.specs.Entry.{Entry, sizeOf, begin, commit, rollback, checkpoint}
 use Rattle.wal.specs.Read.{headerFault, readAt, first}
 use Rattle.wal.specs.Walk.{entries, endOf}
 use Rattle.wal.specs.declared.Reading.{Reading}
-use Rattle.wal.specs.declared.Reading.the-variants.{Whole, End, Torn, Damage}
+use Rattle.wal.specs.declared.Reading.the-variants.{Whole, End, Torn, Unused, Damage}
 use Rattle.refusals.specs.Verdict.{verdict, accepted, _then_}
 use Rattle.refusals.specs.declared.Verdict.{Verdict}
 use Rattle.rules.specs.Shape.{both, either, isKnown, isChange, isShaped, sameSlot}
@@ -106,6 +106,7 @@ abbrev pub endVerdict : Reading → ℕ → Verdict
 endVerdict (Whole v) at = accepted
 endVerdict End at = accepted
 endVerdict Torn at = accepted
+endVerdict Unused at = accepted
 endVerdict Damage at = verdict entryDamaged at
 
 -- 2 and 3; then entry by entry, 5 to 10 in turn, and 4 where the entries end in damage

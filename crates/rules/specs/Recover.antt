@@ -8,7 +8,7 @@ use Rattle.refusals.specs.Refusal.{pageArea, noDataPage, pageOverfull}
 use Rattle.endian.specs.Pick.{pick, consIf}
 use Rattle.wal.specs.Entry.{Entry, sizeOf, begin, commit, rollback}
 use Rattle.wal.specs.Read.{first}
-use Rattle.wal.specs.Walk.{entries, endOf}
+use Rattle.wal.specs.Walk.{entries, endOf, endingOf, endingNumber}
 use Rattle.page.specs.Layout.{bodyBytes, dataType, pagesIn, pageAt, typeOf}
 use Rattle.page.specs.Packed.{roomFor}
 use Rattle.refusals.specs.Verdict.{verdict, accepted, _then_}
@@ -123,11 +123,12 @@ refused v =
       «changes_unended» = 0;
       «changes_zero» = 0;
       rewritten = 0;
+      ending = 0;
     }
 
--- the answer for an accepted list of entries that ends at a place, over n pages
-unfoldable pub done : List Entry → ℕ → ℕ → Answer
-done es end n =
+-- the answer for an accepted list of entries that ends at a place, in a way (0 exact end, 1 torn, 2 unused), over n pages
+unfoldable pub done : List Entry → ℕ → ℕ → ℕ → Answer
+done es end way n =
     record {
       number = 0;
       place = 0;
@@ -141,6 +142,7 @@ done es end n =
       «changes_unended» = changesOf 0 es;
       «changes_zero» = changesZero es;
       rewritten = touchedFrom es n 0;
+      ending = way;
     }
 
 pub record Recovered : Type 0 where
@@ -153,7 +155,7 @@ abbrev pub recoverBy : Verdict → List ℕ → List ℕ → List Record → Rec
 recoverBy v pages log table =
     pick (eqb (v .number) 0)
     (record {
-      answer = done (entries log) (endOf log) (pagesIn pages);
+      answer = done (entries log) (endOf log) (endingNumber (endingOf log)) (pagesIn pages);
       pages = mendedFrom (entries log) pages (pagesIn pages) 0;
       table = tableAfter (entries log) table;
     })

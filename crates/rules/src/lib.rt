@@ -2,7 +2,7 @@
 use endian::Lsn;
 use endian::TxnNumber;
 
-// What recovery answers; refused, all but number and place are 0.
+// What recovery answers; refused, all but number and place are 0. The ending of the log is 0 exact, 1 torn, 2 unused.
 pub struct Answer {
     pub number: u64,
     pub place: u64,
@@ -16,6 +16,7 @@ pub struct Answer {
     pub changes_unended: u64,
     pub changes_zero: u64,
     pub rewritten: u64,
+    pub ending: u64,
 }
 
 // A record of the transaction table: outcome 0 unended, 1 committed, 2 rolled back.

@@ -13,7 +13,7 @@ use Rattle.wal.specs.Read.{wholeAt, readAt, found, lengthBefore, readBef
 use Rattle.wal.specs.Walk.{views, endOf, endFrom, backward}
 use Rattle.wal.specs.declared.EntryView.{EntryView}
 use Rattle.wal.specs.declared.Reading.{Reading}
-use Rattle.wal.specs.declared.Reading.the-variants.{Whole, End, Torn, Damage}
+use Rattle.wal.specs.declared.Reading.the-variants.{Whole, End, Torn, Unused, Damage}
 use Rattle.wal.specs.declared.Before.{Before}
 use Rattle.wal.specs.declared.Before.the-variants.{Found, Nothing}
 use Rattle.wal.proofs.ReadLaws.{too-near, whole-before}
@@ -38,6 +38,7 @@ from-found : {v : EntryView} (r : Reading) → found r ≡ Found v → r ≡ Who
 from-found (Whole u) h = cc
 from-found End h = cc
 from-found Torn h = cc
+from-found Unused h = cc
 from-found Damage h = cc
 
 -- what a step backward finds stands there, and ends where the step began

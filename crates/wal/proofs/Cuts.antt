@@ -1,6 +1,6 @@
 -- Logs that begin with the same bytes: an entry is decided by its own bytes, so a cut's entries are a prefix of the log's, and a cut of a log
 -- that meets no damage meets none. Assumes nothing.
-use Prim.Native.Nat.{ℕ, _+_, _-_, _≤_}
+use Prim.Native.Nat.{ℕ, _+_, _-_, _≤_, _<_}
 use mathlib.Core.Path.{_≡_, refl, sym, ap, ap₂, subst, _∙_}
 use mathlib.Core.List.{List, [], _∷_, _++_, map, append-nil, map-append}
 use mathlib.Core.Bool.{Bool, true, false}
@@ -16,12 +16,13 @@ use Rattle.endian.specs.Numbers.{part, numberAt}
 use Rattle.endian.proofs.Places.{part-take, part-drop, part-append, number-same, number-append}
 use Rattle.crc32c.specs.Crc.{crc32c}
 use Rattle.wal.specs.Entry.{Entry, entryOf}
-use Rattle.wal.specs.Read.{lengthAt, keyLen, oldLen, newLen, view, innerAt, wholeAt, readAt}
+use Rattle.wal.specs.Read.{allZero, lengthAt, keyLen, oldLen, newLen, view, innerAt, wholeAt, readAt}
 use Rattle.wal.specs.Walk.{viewsFrom, views, endFrom, endOf, endingOf, entries}
 use Rattle.wal.specs.declared.EntryView.{EntryView}
 use Rattle.wal.specs.declared.Reading.{Reading}
-use Rattle.wal.specs.declared.Reading.the-variants.{Whole, End, Torn, Damage}
-use Rattle.wal.proofs.ReadLaws.{below, past-end, torn-head, too-low, too-high, torn-body, whole}
+use Rattle.wal.specs.declared.Reading.the-variants.{Whole, End, Torn, Unused, Damage}
+use Rattle.wal.proofs.Zeros.{longer-other}
+use Rattle.wal.proofs.ReadLaws.{below, past-end, torn-head, unused, too-low, too-high, torn-body, whole}
 use Rattle.wal.proofs.WalkLaws.{EntryAt, entry-at, entry-whole, whole-length, inner-lengths, is-whole, not-end, not-damage, Walk, done, step, walk, walk-is, walk-ends, next, none, end-from}
 
 -- ---- an entry is decided by its own bytes
@@ -37,16 +38,20 @@ module _ (s t : List ℕ) (p n : ℕ) (same : part p n s ≡ part p n t) where
   number-both : (w i : ℕ) → i + w ≤ n → numberAt w (p + i) s ≡ numberAt w (p + i) t
   number-both w i h = number-same w (p + i) (p + i) s t (part-both i w h)
 
-module _ {s : List ℕ} {p : ℕ} {v : EntryView} (k : EntryAt s p v) (t : List ℕ) (same : part p (v .length) s ≡ part p (v .length) t) where
-  first-bytes : (w : ℕ) → w ≤ v .length → part p w s ≡ part p w t
-  first-bytes w h = rw add-zero at (part-both s t p (v .length) same 0 w (omega arith))
+  first-bytes : (w : ℕ) → w ≤ n → part p w s ≡ part p w t
+  first-bytes w h = rw add-zero at (part-both 0 w (omega arith))
 
-  same-view : view s p (v .length) ≡ view t p (v .length)
+-- what it says stands before its second length
+module _ {s : List ℕ} {p : ℕ} {v : EntryView} (k : EntryAt s p v) (t : List ℕ) (same : part p (v .length - 4) s ≡ part p (v .length - 4) t) where
+  pub same-length : lengthAt t p ≡ v .length
+  same-length = sym (number-same 4 p p s t (first-bytes s t p (v .length - 4) same 4 (omega arith))) ∙ k .front
+
+  same-view : v ≡ view t p (v .length)
   unfolding view
   same-view =
-      let n = v .length in
+      let is = k .is in
       let i = inner-lengths k in
-      let number = number-both s t p n same in
+      let number = number-both s t p (v .length - 4) same in
       let key : keyLen s p ≡ keyLen t p = number 2 25 (omega arith) in
       let old : oldLen s p ≡ oldLen t p = number 4 (27 + keyLen s p) (omega arith) ∙ ap (λ (x : ℕ). numberAt 4 (p + (27 + x)) t) key in
       let new : newLen s p ≡ newLen t p = number 4 (31 + keyLen s p + oldLen s p) (omega arith) ∙ cc in
@@ -56,7 +61,30 @@ module _ {s : List ℕ} {p : ℕ} {v : EntryView} (k : EntryAt s p v) (t : List 
       let table = number 4 21 (omega arith) in
       cc
 
-  pub carried : p + v .length ≤ length t → EntryAt t p v
+  -- a whole entry there is the same one
+  pub same-whole : {w : EntryView} → readAt t p ≡ Whole w → w ≡ v
+  same-whole {w} q =
+      let e = entry-at t p q in
+      let l : w .length ≡ v .length = sym (e .front) ∙ same-length in
+      e .is ∙ ap (view t p) l ∙ sym same-view
+
+  -- and says the same
+  pub same-entry : entryOf s v ≡ entryOf t v
+  unfolding entryOf
+  same-entry =
+      let both = part-both s t p (v .length - 4) same in
+      let at = k .here in
+      let key = both 27 (v .«key_len») (omega arith) in
+      let old = both (31 + v .«key_len») (v .«old_len») (omega arith) in
+      let new = both (35 + v .«key_len» + v .«old_len») (v .«new_len») (omega arith) in
+      cc
+
+-- all its bytes make it whole
+module _ {s : List ℕ} {p : ℕ} {v : EntryView} (k : EntryAt s p v) (t : List ℕ) (same : part p (v .length) s ≡ part p (v .length) t) where
+  fewer : part p (v .length - 4) s ≡ part p (v .length - 4) t
+  fewer = first-bytes s t p (v .length) same (v .length - 4) (omega arith)
+
+  carried : p + v .length ≤ length t → EntryAt t p v
   carried room =
       let number = number-both s t p (v .length) same in
       record {
@@ -65,23 +93,12 @@ module _ {s : List ℕ} {p : ℕ} {v : EntryView} (k : EntryAt s p v) (t : List 
         high = k .high;
         room = room;
         here = k .here;
-        is = k .is ∙ same-view;
+        is = same-view k t fewer;
         inner = k .inner;
-        front = sym (number-same 4 p p s t (first-bytes 4 (omega arith))) ∙ k .front;
+        front = same-length k t fewer;
         back = sym (number 4 (v .length - 4) (omega arith)) ∙ k .back;
-        sum = sym (number 4 (v .length - 8) (omega arith)) ∙ k .sum ∙ ap crc32c (first-bytes (v .length - 8) (omega arith));
+        sum = sym (number 4 (v .length - 8) (omega arith)) ∙ k .sum ∙ ap crc32c (first-bytes s t p (v .length) same (v .length - 8) (omega arith));
       }
-
-  -- and says the same
-  pub same-entry : entryOf s v ≡ entryOf t v
-  unfolding entryOf
-  same-entry =
-      let both = part-both s t p (v .length) same in
-      let at = k .here in
-      let key = both 27 (v .«key_len») (omega arith) in
-      let old = both (31 + v .«key_len») (v .«old_len») (omega arith) in
-      let new = both (35 + v .«key_len» + v .«old_len») (v .«new_len») (omega arith) in
-      cc
 
 -- ---- a longer log: s ++ t
 end-damage : End ≡ Damage → ⊥
@@ -90,7 +107,10 @@ end-damage h = let z : _≡_ {A = ℕ} 0 1 = cc in omega arith
 torn-damage : Torn ≡ Damage → ⊥
 torn-damage h = let z : _≡_ {A = ℕ} 0 1 = cc in omega arith
 
-whole-cases : (s : List ℕ) (p n : ℕ) → (wholeAt s p n ≡ Damage) ⊎ ((v : EntryView) × (wholeAt s p n ≡ Whole v))
+unused-damage : Unused ≡ Damage → ⊥
+unused-damage h = let z : _≡_ {A = ℕ} 0 1 = cc in omega arith
+
+pub whole-cases : (s : List ℕ) (p n : ℕ) → (wholeAt s p n ≡ Damage) ⊎ ((v : EntryView) × (wholeAt s p n ≡ Whole v))
 unfolding wholeAt innerAt
 whole-cases s p n =
     by-test (eqb (lengthAt s p) n)
@@ -115,7 +135,7 @@ module _ (s t : List ℕ) where
       let more = walk-longer w in (
         more .0,
         ap (λ (l : List EntryView). v ∷ l) (more .1) ∙ sym (next (s ++ t) p (is-whole (entry-longer k))),
-        ap₂ _∷_ (same-entry k (s ++ t) (same-bytes k)) (more .2),
+        ap₂ _∷_ (same-entry k (s ++ t) (fewer k (s ++ t) (same-bytes k))) (more .2),
       )
 
   -- bytes that are damage as an entry are damage in the longer log too
@@ -131,6 +151,11 @@ module _ (s t : List ℕ) where
           let back = carried k s (part-append p (v .length) s t (omega arith)) (omega arith) in
           absurd (not-damage (sym h ∙ is-whole back))
 
+  -- a non-zero byte stays
+  still-other : (p : ℕ) → 32 ≤ p → p < length s → p + 4 ≤ length s → readAt s p ≡ Damage → (b : Bool) → allZero (drop p s) ≡ b → false ≡ allZero (drop p (s ++ t))
+  still-other p from here room h true z = absurd (unused-damage (unused s p from room (sym z) ∙ h))
+  still-other p from here room h false z = sym (longer-other p s t (omega arith) z)
+
   -- damage stays damage
   still-damage : (p : ℕ) → readAt s p ≡ Damage → readAt (s ++ t) p ≡ Damage
   still-damage p h =
@@ -144,7 +169,7 @@ module _ (s t : List ℕ) where
             | no c ↦
                 let l : lengthAt (s ++ t) p ≡ lengthAt s p = number-append 4 p s t (omega arith) in
                 elim (decLt (lengthAt s p) 43) [
-                  | yes d ↦ sym (too-low (s ++ t) p (omega arith) (omega arith) (omega arith))
+                  | yes d ↦ sym (too-low (s ++ t) p (omega arith) (omega arith) (omega arith) (still-other p (omega arith) (omega arith) (omega arith) h (allZero (drop p s)) refl))
                   | no d ↦ elim (decLt 32705 (lengthAt s p)) [
                     | yes e ↦ sym (too-high (s ++ t) p (omega arith) (omega arith) (omega arith))
                     | no e ↦ elim (decLt (length s) (p + lengthAt s p)) [
@@ -177,16 +202,6 @@ module _ (s t : List ℕ) where
       let f = entryOf (s ++ t) in
       (map f (w .0), rw (w .2) (sym (map-append f (views s) (w .0)) ∙ ap (map f) (w .1)))
 
-  -- where the longer log's walk meets no damage, this one ends at its exact end or in a torn tail
-  pub longer-ending : (endingOf (s ++ t) ≡ Damage → ⊥) → (endingOf s ≡ End) ⊎ (endingOf s ≡ Torn)
-  longer-ending never = cases (endingOf s) refl
-    where
-      cases : (r : Reading) → endingOf s ≡ r → (endingOf s ≡ End) ⊎ (endingOf s ≡ Torn)
-      cases (Whole v) h = absurd (walk-ends (walk s 32) h)
-      cases End h = inl h
-      cases Torn h = inr h
-      cases Damage h = absurd (never (ending-damage h))
-
 -- ---- cuts of a log
 module _ (s : List ℕ) (c₁ c₂ : ℕ) (le : c₁ ≤ c₂) where
   longer : take c₁ s ++ drop c₁ (take c₂ s) ≡ take c₂ s
@@ -198,8 +213,9 @@ module _ (s : List ℕ) (c₁ c₂ : ℕ) (le : c₁ ≤ c₂) where
   pub cut-entries : (es : List Entry) × (entries (take c₁ s) ++ es ≡ entries (take c₂ s))
   cut-entries = rw longer at (longer-entries (take c₁ s) (drop c₁ (take c₂ s)))
 
-  pub cut-ending : (endingOf (take c₂ s) ≡ Damage → ⊥) → (endingOf (take c₁ s) ≡ End) ⊎ (endingOf (take c₁ s) ≡ Torn)
-  cut-ending = rw longer at (longer-ending (take c₁ s) (drop c₁ (take c₂ s)))
+  -- where the longer cut's walk meets no damage, neither does this one's
+  pub cut-damage : endingOf (take c₁ s) ≡ Damage → endingOf (take c₂ s) ≡ Damage
+  cut-damage = rw longer at (ending-damage (take c₁ s) (drop c₁ (take c₂ s)))
 
 -- ---- entries that end at or before the cut are the cut's
 module _ (s : List ℕ) (c : ℕ) where
@@ -212,7 +228,7 @@ module _ (s : List ℕ) (c : ℕ) where
       let same : part p (u .length) s ≡ part p (u .length) (take c s) = sym (part-take p (u .length) c s (omega arith)) in
       let more = walk-cut us vs w h in
       let kept = carried k (take c s) same (omega (arith, length-take c s)) in
-      (next (take c s) p (is-whole kept) ∙ ap (λ (l : List EntryView). u ∷ l) (more .0), ap₂ _∷_ (sym (same-entry k (take c s) same)) (more .1))
+      (next (take c s) p (is-whole kept) ∙ ap (λ (l : List EntryView). u ∷ l) (more .0), ap₂ _∷_ (sym (same-entry k (take c s) (fewer k (take c s) same))) (more .1))
 
   pub cut-keeps : (us vs : List EntryView) → views s ≡ us ++ vs → endFrom 32 us ≤ c
       → (views (take c s) ≡ us ++ viewsFrom (take c s) (endFrom 32 us)) × (map (entryOf (take c s)) us ≡ map (entryOf s) us)

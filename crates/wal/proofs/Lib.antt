@@ -1,8 +1,11 @@
+pub mod Zeros
 pub mod ReadLaws
 pub mod WalkLaws
 pub mod Backward
 pub mod Places
 pub mod Prefix
 pub mod Cuts
+pub mod Files
+pub mod Endings
 pub mod Encoding
 pub mod ReaderLaws

@@ -4,18 +4,19 @@ use mathlib.Core.Path.{_≡_, refl, sym, _∙_}
 use mathlib.Core.List.{List}
 use mathlib.Core.Bool.{Bool, true, false}
 use native.Mathlib.Omega.{arith}
-use lib.ListN.{length}
+use lib.ListN.{length, drop}
 use lib.Dec.{ltb}
 use borrow.Author.Tests.{lt-ltb, le-ltb, le-leb, lt-leb, eq-eqb, ne-eqb}
 use Rattle.endian.specs.Pick.{pick}
 use Rattle.endian.specs.Numbers.{part, numberOf, numberAt}
 use Rattle.crc32c.specs.Crc.{crc32c}
 use Rattle.wal.specs.Entry.{mark}
-use Rattle.wal.specs.Read.{logLimit, lengthAt, keyLen, oldLen, newLen, fields, view, innerAt, wholeAt, readAt, found, lengthBefore, readBefore, headerFault}
+use Rattle.wal.specs.Read.{logLimit, allZero, lengthAt, keyLen, oldLen, newLen, fields, view, innerAt, wholeAt, readAt, found, lengthBefore, readBefore, headerFault}
 use Rattle.wal.specs.declared.EntryView.{EntryView}
 use Rattle.wal.specs.declared.Reading.{Reading}
-use Rattle.wal.specs.declared.Reading.the-variants.{Whole, End, Torn, Damage}
+use Rattle.wal.specs.declared.Reading.the-variants.{Whole, End, Torn, Unused, Damage}
 use Rattle.wal.specs.declared.Before.the-variants.{Nothing}
+use Rattle.wal.proofs.Zeros.{number-other}
 
 -- ---- forward
 module _ (s : List ℕ) (p : ℕ) where
@@ -33,24 +34,27 @@ module _ (s : List ℕ) (p : ℕ) where
     torn-head h k = simp (le-ltb _ _ from, lt-leb _ _ h, lt-ltb (length s - p) 4 (omega arith))
 
     module _ (room : p + 4 ≤ length s) where
-      -- four bytes are left: the length decides
-      long : readAt s p ≡
-          pick (ltb (lengthAt s p) 43) Damage (pick (ltb 32705 (lengthAt s p)) Damage (pick (ltb (length s - p) (lengthAt s p)) Torn (wholeAt s p (lengthAt s p))))
+      -- four bytes are left: zeros to the end are unused room, else the length decides
+      long : readAt s p ≡ pick (allZero (drop p s)) Unused
+          (pick (ltb (lengthAt s p) 43) Damage (pick (ltb 32705 (lengthAt s p)) Damage (pick (ltb (length s - p) (lengthAt s p)) Torn (wholeAt s p (lengthAt s p)))))
       unfolding readAt
       long = simp (le-ltb _ _ from, lt-leb (length s) p (omega arith), le-ltb (length s - p) 4 (omega arith))
 
-      pub too-low : lengthAt s p < 43 → Damage ≡ readAt s p
-      too-low h = sym (long ∙ simp (lt-ltb _ _ h))
+      pub unused : true ≡ allZero (drop p s) → Unused ≡ readAt s p
+      unused z = sym (long ∙ simp (sym z))
+
+      pub too-low : lengthAt s p < 43 → false ≡ allZero (drop p s) → Damage ≡ readAt s p
+      too-low h z = sym (long ∙ simp (sym z, lt-ltb _ _ h))
 
       pub too-high : 32705 < lengthAt s p → Damage ≡ readAt s p
-      too-high h = sym (long ∙ simp (le-ltb (lengthAt s p) 43 (omega arith), lt-ltb _ _ h))
+      too-high h = sym (long ∙ simp (number-other s p 4 (λ e. omega arith), le-ltb (lengthAt s p) 43 (omega arith), lt-ltb _ _ h))
 
       module _ (low : 43 ≤ lengthAt s p) (high : lengthAt s p ≤ 32705) where
         pub torn-body : length s < p + lengthAt s p → Torn ≡ readAt s p
-        torn-body h = sym (long ∙ simp (le-ltb _ _ low, le-ltb _ _ high, lt-ltb (length s - p) (lengthAt s p) (omega arith)))
+        torn-body h = sym (long ∙ simp (number-other s p 4 (λ e. omega arith), le-ltb _ _ low, le-ltb _ _ high, lt-ltb (length s - p) (lengthAt s p) (omega arith)))
 
         pub whole : p + lengthAt s p ≤ length s → readAt s p ≡ wholeAt s p (lengthAt s p)
-        whole h = long ∙ simp (le-ltb _ _ low, le-ltb _ _ high, le-ltb (length s - p) (lengthAt s p) (omega arith))
+        whole h = long ∙ simp (number-other s p 4 (λ e. omega arith), le-ltb _ _ low, le-ltb _ _ high, le-ltb (length s - p) (lengthAt s p) (omega arith))
 
 -- past the log, wherever that is
 pub past-end : (s : List ℕ) (p : ℕ) → length s ≤ p → End ≡ readAt s p

@@ -10,7 +10,7 @@ use Rattle.wal.specs.Walk.{endOf}
 use Rattle.wal.specs.Reader.{unlessRefused, openedAt, placeAfter, placeBefore}
 use Rattle.wal.specs.declared.EntryView.{EntryView}
 use Rattle.wal.specs.declared.Reading.{Reading}
-use Rattle.wal.specs.declared.Reading.the-variants.{Whole, End, Torn, Damage}
+use Rattle.wal.specs.declared.Reading.the-variants.{Whole, End, Torn, Unused, Damage}
 use Rattle.wal.specs.declared.Before.{Before}
 use Rattle.wal.specs.declared.Before.the-variants.{Found, Nothing}
 use Rattle.wal.proofs.Reading.{the-type}
@@ -31,10 +31,11 @@ module _ (s : List ℕ) (b : Bool) (h : headerFault s ≡ 0) where
   opened-first e = simp (h, e)
 
 -- what is no entry moves no place
-pub stays : (r : Reading) (p : ℕ) → OneOf (1 ∷ 2 ∷ 3 ∷ []) (tagOf the-type r) → p ≡ placeAfter r p
-stays (Whole v) p k = absurd (miss (1 ∷ 2 ∷ 3 ∷ []) 0 tt k)
+pub stays : (r : Reading) (p : ℕ) → OneOf (1 ∷ 2 ∷ 3 ∷ 4 ∷ []) (tagOf the-type r) → p ≡ placeAfter r p
+stays (Whole v) p k = absurd (miss (1 ∷ 2 ∷ 3 ∷ 4 ∷ []) 0 tt k)
 stays End p k = refl
 stays Torn p k = refl
+stays Unused p k = refl
 stays Damage p k = refl
 
 -- a step as its answer is known: what was found, and where it leads

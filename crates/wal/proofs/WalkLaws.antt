@@ -4,7 +4,7 @@ use mathlib.Core.Path.{_≡_, refl, sym, ap, _∙_}
 use mathlib.Core.List.{List, [], _∷_}
 use mathlib.Core.Bool.{Bool, true, false}
 use native.Mathlib.Omega.{arith}
-use lib.ListN.{length}
+use lib.ListN.{length, drop}
 use lib.Dec.{ltb, leb, eqb}
 use borrow.Author.Tests.{ltb-false, leb-false, eqb-true}
 use denote.Enum.Declared.{tagOf}
@@ -12,11 +12,11 @@ use types.Run.{OneOf, miss}
 use Rattle.endian.specs.Pick.{pick}
 use Rattle.endian.specs.Numbers.{part, numberAt}
 use Rattle.crc32c.specs.Crc.{crc32c}
-use Rattle.wal.specs.Read.{lengthAt, keyLen, oldLen, newLen, view, innerAt, wholeAt, readAt, found}
+use Rattle.wal.specs.Read.{allZero, lengthAt, keyLen, oldLen, newLen, view, innerAt, wholeAt, readAt, found}
 use Rattle.wal.specs.Walk.{followed, scan, viewsFrom, endFrom}
 use Rattle.wal.specs.declared.EntryView.{EntryView}
 use Rattle.wal.specs.declared.Reading.{Reading}
-use Rattle.wal.specs.declared.Reading.the-variants.{Whole, End, Torn, Damage}
+use Rattle.wal.specs.declared.Reading.the-variants.{Whole, End, Torn, Unused, Damage}
 use Rattle.wal.specs.declared.Before.the-variants.{Nothing}
 use Rattle.wal.proofs.Reading.{the-type}
 use Rattle.wal.proofs.ReadLaws.{past-end, whole, sealed, good-inner}
@@ -40,6 +40,9 @@ module _ {v : EntryView} where
 
   pub not-torn : Torn ≡ Whole v → ⊥
   not-torn h = let z : _≡_ {A = ℕ} 0 1 = cc in omega arith
+
+  pub not-unused : Unused ≡ Whole v → ⊥
+  not-unused h = let z : _≡_ {A = ℕ} 0 1 = cc in omega arith
 
   pub not-damage : Damage ≡ Whole v → ⊥
   not-damage h = let z : _≡_ {A = ℕ} 0 1 = cc in omega arith
@@ -103,7 +106,8 @@ entry-at s p h =
     let a = past (ltb p 32) not-end h in
     let b = past (leb (length s) p) not-end (a .1) in
     let c = past (ltb (length s - p) 4) not-torn (b .1) in
-    let d = past (ltb (lengthAt s p) 43) not-damage (c .1) in
+    let u = past (allZero (drop p s)) not-unused (c .1) in
+    let d = past (ltb (lengthAt s p) 43) not-damage (u .1) in
     let e = past (ltb 32705 (lengthAt s p)) not-damage (d .1) in
     let f = past (ltb (length s - p) (lengthAt s p)) not-torn (e .1) in
     entry-whole s p (lengthAt s p) (ltb-false _ _ (a .0)) (ltb-false _ _ (d .0)) (ltb-false _ _ (e .0)) (omega (arith, ltb-false, leb-false)) (f .1)
@@ -135,6 +139,7 @@ turn : (s : List ℕ) (f p : ℕ) → ((v : EntryView) → EntryAt s p v → Wal
 turn s f p more (Whole v) q = step q (more v (entry-at s p q))
 turn s f p more End q = done (λ v e. not-end (sym q ∙ e))
 turn s f p more Torn q = done (λ v e. not-torn (sym q ∙ e))
+turn s f p more Unused q = done (λ v e. not-unused (sym q ∙ e))
 turn s f p more Damage q = done (λ v e. not-damage (sym q ∙ e))
 
 fuelled : (s : List ℕ) (f p : ℕ) → length s ≤ f + p → Walk s p (scan f s p)
@@ -173,13 +178,14 @@ pub none : (s : List ℕ) (p : ℕ) → ((v : EntryView) → readAt s p ≡ Whol
 none s p n = walk-is (done n)
 
 -- as the `else` of `let Reading::Whole(v) = .. else` knows it: the variant's number is not 0
-pub missed : (r : Reading) → OneOf (1 ∷ 2 ∷ 3 ∷ []) (tagOf the-type r) → (found r ≡ Nothing) × ((v : EntryView) → r ≡ Whole v → ⊥)
-missed (Whole v) k = absurd (miss (1 ∷ 2 ∷ 3 ∷ []) 0 tt k)
+pub missed : (r : Reading) → OneOf (1 ∷ 2 ∷ 3 ∷ 4 ∷ []) (tagOf the-type r) → (found r ≡ Nothing) × ((v : EntryView) → r ≡ Whole v → ⊥)
+missed (Whole v) k = absurd (miss (1 ∷ 2 ∷ 3 ∷ 4 ∷ []) 0 tt k)
 missed End k = (refl, λ v. not-end)
 missed Torn k = (refl, λ v. not-torn)
+missed Unused k = (refl, λ v. not-unused)
 missed Damage k = (refl, λ v. not-damage)
 
-pub stops : (s : List ℕ) (p : ℕ) (r : Reading) → r ≡ readAt s p → OneOf (1 ∷ 2 ∷ 3 ∷ []) (tagOf the-type r) → viewsFrom s p ≡ []
+pub stops : (s : List ℕ) (p : ℕ) (r : Reading) → r ≡ readAt s p → OneOf (1 ∷ 2 ∷ 3 ∷ 4 ∷ []) (tagOf the-type r) → viewsFrom s p ≡ []
 stops s p r h k = none s p (λ v q. missed r k .1 v (h ∙ q))
 
 -- a walk does not go back

@@ -1,7 +1,8 @@
--- What stands at a place of a log, forward and backward (paper 01, Log).
+-- What stands at a place of a log, forward and backward (paper 01, Log; paper 02, W11).
 use Prim.Native.Nat.{ℕ, _+_, _-_}
-use mathlib.Core.List.{List}
-use lib.ListN.{length}
+use mathlib.Core.List.{List, [], _∷_}
+use mathlib.Core.Bool.{Bool, true, false}
+use lib.ListN.{length, drop}
 use lib.Dec.{ltb, leb, eqb}
 use Rattle.refusals.specs.Refusal.{logTooLong, logHeader}
 use Rattle.endian.specs.Pick.{pick}
@@ -10,7 +11,7 @@ use Rattle.crc32c.specs.Crc.{crc32c}
 use Rattle.wal.specs.Entry.{mark}
 use Rattle.wal.specs.declared.EntryView.{EntryView}
 use Rattle.wal.specs.declared.Reading.{Reading}
-use Rattle.wal.specs.declared.Reading.the-variants.{Whole, End, Torn, Damage}
+use Rattle.wal.specs.declared.Reading.the-variants.{Whole, End, Torn, Unused, Damage}
 use Rattle.wal.specs.declared.Before.{Before}
 use Rattle.wal.specs.declared.Before.the-variants.{Found, Nothing}
 
@@ -76,23 +77,30 @@ wholeAt s p n =
     Damage)
     Damage
 
--- reading forward at p: no byte left, or a place before the first entry, ends the log; 1 to 3 bytes left are a torn tail; a length out of bounds is damage;
--- a length above what is left is a torn tail
+-- all bytes are zero
+unfoldable pub allZero : List ℕ → Bool
+allZero [] = true
+allZero (b ∷ bs) = pick (eqb b 0) (allZero bs) false
+
+-- reading forward at p: no byte left, or a place before the first entry, ends the log; 1 to 3 bytes left are a torn tail; where 4 or more are left and all are zero
+-- the log ends unused; a length out of bounds is damage, so a zero length with any later non-zero byte is; a length above what is left is a torn tail
 unfoldable pub readAt : List ℕ → ℕ → Reading
 readAt s p =
     pick (ltb p first) End
     (pick (leb (length s) p) End
     (pick (ltb (length s - p) 4) Torn
+    (pick (allZero (drop p s)) Unused
     (pick (ltb (lengthAt s p) shortest) Damage
     (pick (ltb longest (lengthAt s p)) Damage
     (pick (ltb (length s - p) (lengthAt s p)) Torn
-    (wholeAt s p (lengthAt s p)))))))
+    (wholeAt s p (lengthAt s p))))))))
 
 -- the entry of a reading, if it is one
 abbrev pub found : Reading → Before
 found (Whole v) = Found v
 found End = Nothing
 found Torn = Nothing
+found Unused = Nothing
 found Damage = Nothing
 
 -- the length that stands at the end of an entry that ends at p

@@ -1,4 +1,4 @@
--- The log reader: the lent log and its own place (paper 01, Log).
+-- The log reader: the lent log and its own place (paper 01, Log; paper 02, W11).
 use Prim.Native.Nat.{ℕ, zero, suc, _+_}
 use mathlib.Core.List.{List, []}
 use mathlib.Core.Bool.{Bool}
@@ -6,7 +6,7 @@ use Rattle.endian.specs.Pick.{pick}
 use Rattle.wal.specs.Read.{headerFault, first}
 use Rattle.wal.specs.Walk.{endOf}
 use Rattle.wal.specs.declared.Reading.{Reading}
-use Rattle.wal.specs.declared.Reading.the-variants.{Whole, End, Torn, Damage}
+use Rattle.wal.specs.declared.Reading.the-variants.{Whole, End, Torn, Unused, Damage}
 use Rattle.wal.specs.declared.Before.{Before}
 use Rattle.wal.specs.declared.Before.the-variants.{Found, Nothing}
 
@@ -27,6 +27,7 @@ abbrev pub placeAfter : Reading → ℕ → ℕ
 placeAfter (Whole v) p = p + v .length
 placeAfter End p = p
 placeAfter Torn p = p
+placeAfter Unused p = p
 placeAfter Damage p = p
 
 abbrev pub placeBefore : Before → ℕ → ℕ

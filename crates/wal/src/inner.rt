@@ -1,12 +1,13 @@
 // The same over lent checksum tables, and readers for callers that know an entry to stand there.
 ghost use mathlib.Core.Path.{_≡_};
 ghost use Prim.Native.Nat.{_+_, _-_, _≤_, _<_};
-ghost use lib.ListN.{length};
+ghost use lib.ListN.{length, drop};
 ghost use Rattle.endian.specs.Numbers.{part};
 ghost use Rattle.crc32c.specs.Crc.{crc32c as crcOf};
 ghost use Rattle.crc32c.specs.Tables.{Tables};
-ghost use Rattle.wal.specs.Read.{fields, innerAt, wholeAt, readAt, readBefore, lengthBefore};
-ghost use Rattle.wal.specs.Walk.{endOf};
+ghost use Rattle.wal.specs.Read.{fields, allZero, innerAt, wholeAt, readAt, readBefore, lengthBefore};
+ghost use Rattle.wal.specs.Walk.{endOf, endingOf, endingNumber};
+ghost use Rattle.wal.specs.declared.Reading.the-variants.{Damage};
 ghost use Rattle.wal.specs.Prefix.{Stands, Met, entryIn};
 use crate::Before;
 use crate::EntryView;
@@ -17,6 +18,7 @@ use crate::SHORTEST;
 use crc32c::inner::Tables;
 use endian::Lsn;
 use endian::TxnNumber;
+use endian::inner::short_at;
 use endian::inner::u16_at;
 use endian::inner::u32_at;
 use endian::inner::u64_at;
@@ -96,6 +98,21 @@ fn inner_lengths(log: &[u8], place: usize, n: usize) -> Reading
     Reading::Whole(fields_at(log, place, n, key_len, old_len, new_len))
 }
 
+// Whether all bytes from `from` on are zero, eight at a time.
+fn zero_from(log: &[u8], from: usize) -> bool
+    requires { ⌜ from ≤ length (now log) ⌝ }
+    ensures { λ r. ⌜ r ≡ allZero (drop from (now (log .entry))) ⌝ }
+{
+    let mut at = from;
+    while log.len() - at >= 8 {
+        if u64_at(log, at) != 0 {
+            return false;
+        }
+        at = at + 8;
+    }
+    short_at(log, at) == 0
+}
+
 // What stands at place.
 pub fn entry_at(t: &Tables, log: &[u8], place: usize) -> Reading
     requires { ⌜ Tables (now t) ⌝ }
@@ -113,6 +130,9 @@ pub fn entry_at(t: &Tables, log: &[u8], place: usize) -> Reading
     }
     let n = u32_at(log, place) as usize;
     if n < SHORTEST {
+        if zero_from(log, place) {
+            return Reading::Unused;
+        }
         return Reading::Damage;
     }
     if n > LONGEST {
@@ -163,6 +183,24 @@ pub fn end_of(t: &Tables, log: &[u8]) -> usize
         };
         at = at + v.length;
     }
+}
+
+// The number of the ending of a log that meets no damage, at the place where its walk ends: 0 exact end, 1 torn, 2 unused.
+pub fn ending_at(log: &[u8], place: usize) -> u64
+    requires { ⌜ place ≡ endOf (now log) ⌝ }
+    requires { ⌜ (endingOf (now log) ≡ Damage → ⊥) ⌝ }
+    ensures { λ r. ⌜ r ≡ endingNumber (endingOf (now (log .entry))) ⌝ }
+{
+    if log.len() <= place {
+        return 0;
+    }
+    if log.len() - place < 4 {
+        return 1;
+    }
+    if u32_at(log, place) == 0 {
+        return 2;
+    }
+    1
 }
 
 // The entry that is known to stand at place, and no checksum.

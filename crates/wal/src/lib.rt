@@ -39,6 +39,7 @@ pub enum Reading {
     Whole(EntryView),
     End,
     Torn,
+    Unused,
     Damage,
 }
 

@@ -1,4 +1,4 @@
-// Lengths, tails, checksums and places of a log, and a row image that holds a whole entry.
+// Lengths, tails, unused room, checksums and places of a log, and a row image that holds a whole entry.
 ghost use Prim.Native.Nat.{_≤_};
 use crate::trip::there_and_back;
 use endian::put_u16;
@@ -96,6 +96,9 @@ fn print_reading(found: Reading) {
         }
         Reading::Torn => {
             io::write_all(1, b" torn tail");
+        }
+        Reading::Unused => {
+            io::write_all(1, b" unused");
         }
         Reading::Damage => {
             io::write_all(1, b" damage");
@@ -246,6 +249,65 @@ fn lengths() {
     show(b"length 32706, past the end", &log);
 }
 
+// A Begin, and zero bytes behind it.
+fn room() {
+    let mut log = [0u8; 80];
+    put_header(&mut log);
+    put_entry(&mut log, 32, 1, 0, 0, 0);
+    show_first(b"a Begin and 1 zero byte", &log, 76);
+    show_first(b"a Begin and 3 zero bytes", &log, 78);
+    show_first(b"a Begin and 4 zero bytes", &log, 79);
+    show(b"a Begin and 5 zero bytes", &log);
+}
+
+// The end found by walking is at the zero bytes, and a step backward from it finds the Begin.
+fn room_steps() {
+    let mut log = [0u8; 100];
+    put_header(&mut log);
+    put_entry(&mut log, 32, 1, 0, 0, 0);
+    show(b"a Begin and 25 zero bytes", &log);
+    opened(&log);
+    let at = forward(&log, 75);
+    backward(&log, at);
+    forward(&log, 96);
+    forward(&log, 97);
+}
+
+fn spoiled_room() {
+    let mut log = [0u8; 100];
+    put_header(&mut log);
+    put_entry(&mut log, 32, 1, 0, 0, 0);
+    log[99] = 1;
+    show(b"the last of them 1", &log);
+}
+
+// Cuts with zero bytes behind them.
+fn cut_room() {
+    let mut log = [0u8; 100];
+    put_header(&mut log);
+    log[32] = 43;
+    show_first(
+        b"a length of 43 cut after its first byte, 3 zero bytes",
+        &log,
+        36,
+    );
+    show(
+        b"a length of 43 cut after its first byte, 67 zero bytes",
+        &log,
+    );
+    log[32] = 0;
+    show(
+        b"a length of 256 cut after its first byte, 67 zero bytes",
+        &log,
+    );
+    put_entry(&mut log, 32, 1, 0, 0, 0);
+    put_u16(&mut log, 72, 0);
+    log[74] = 0;
+    show(b"a Begin without its last three bytes, 28 zero bytes", &log);
+    log[71] = 0;
+    show(b"a Begin without its last four bytes, 29 zero bytes", &log);
+}
+
 // The log and its longest entry.
 fn longest() {
     let mut log = [7u8; 32737];
@@ -355,6 +417,10 @@ fn main() {
     places_back();
     tails();
     lengths();
+    room();
+    room_steps();
+    spoiled_room();
+    cut_room();
     longest();
     longer();
     damages();

@@ -94,4 +94,26 @@ fn main() {
         };
         println!("{n:>12}  {:>24}  {:>24}  {:>24}", show(p), show(s), show(m));
     }
+    zeros();
+}
+
+/// Room set aside: the step at its start, which looks at all of its zeros, beside one checksum of the same bytes; and recovery of
+/// no pages.
+fn zeros() {
+    let mut log = vec![0u8; 16 << 20];
+    log[..6].copy_from_slice(&[0x57, 0x41, 0x4C, 0x4E, 1, 0]);
+    let step = || library::log_forward(black_box(&log), 32).kind;
+    let recovery = || library::recover(0, 0, &mut [], black_box(&log), &mut []).ending;
+    assert_eq!(
+        (step(), recovery()),
+        (library::STEP_UNUSED, library::ENDED_UNUSED)
+    );
+    let sum = best(21, || library::crc32c(black_box(&log)));
+    let show = |t: f64| format!("{:.2} ms ({:.2}x)", t * 1e3, t / sum);
+    println!(
+        "All zero behind its header, best of 21: step {}, recovery {}, one checksum {}",
+        show(best(21, step)),
+        show(best(21, recovery)),
+        show(sum)
+    );
 }

@@ -95,6 +95,9 @@ const LIMITS: &[Limit] = &[
     ("the most changes", || most_changes(0), 0),
     ("the most changes, never ended", || most_changes(1), 0),
     ("last slot of the most pages at fault", last_slot_of_all, 19),
+    ("the longest log, all zero", || zeros(Log::new()), 0),
+    ("the longest log, zeros at last", || zeros(short_log(12)), 0),
+    ("the longest log, zeros and a one", zeros_and_a_one, 4),
 ];
 
 /// Seed, name and recovery's number of every case.
@@ -161,6 +164,7 @@ impl Input {
         let earlier = Earlier {
             floor: 0,
             cut: self.log.len() / 2,
+            zeros: 0,
             mended: (0..pages).map(|index| index % 3 == 0).collect(),
         };
         Input {
@@ -302,6 +306,21 @@ fn damaged_log() -> Input {
         log.bytes.extend(&last_begin()[..40]);
     });
     let place = oracle::log_open(&input.log, true).place;
+    input.refused_at(place)
+}
+
+/// A log with zeros behind it, up to the most bytes.
+fn zeros(mut log: Log) -> Input {
+    log.bytes.resize(MAX_LOG_BYTES, 0);
+    Input::new(area(12), log)
+}
+
+/// The same, but for its last byte.
+fn zeros_and_a_one() -> Input {
+    let log = short_log(12);
+    let place = log.place();
+    let mut input = zeros(log);
+    input.log[MAX_LOG_BYTES - 1] = 1;
     input.refused_at(place)
 }
 

@@ -73,6 +73,11 @@ fn once(subject: &mut Subject, seen: &mut Seen, given: Given) -> Left {
     seen.meets_aim(case, ANSWERED, once.answer.verdict());
     if once.answer.number == 0 {
         seen.event("recovered");
+        seen.event(match once.answer.ending {
+            library::ENDED_EXACTLY => "log that ends exactly",
+            library::ENDED_TORN => "log that ends torn",
+            _ => "log that ends unused",
+        });
         follows_ledger(case, seen, &once);
     }
     once
@@ -152,10 +157,16 @@ fn by_oracle(magic: u64, given: Given) -> Left {
 /// The recovered pages hold what the ledger of the cut says.
 fn follows_ledger(case: &Case, seen: &mut Seen, once: &Left) {
     let Some(honest) = &case.honest else { return };
-    if !honest.has_felt_changes(case.log.len()) {
+    if !honest.has_felt_changes() {
         return;
     }
     seen.event("ledger");
+    if honest.zeros > 0 {
+        seen.event("ledger, zeros behind the cut");
+    }
+    if honest.completed(once.answer.tail_offset) {
+        seen.event("ledger, an entry completed by zeros");
+    }
     let ledger = ledger(&honest.start_pages, &case.log);
     seen.must(tuples_on(&once.pages) == ledger, || {
         "the recovered rows are not the ledger's".to_string()
@@ -173,20 +184,23 @@ fn mixture(old: &[u8], new: &[u8], mended: impl Fn(usize) -> bool) -> Vec<u8> {
     mixed
 }
 
-/// A run from the same or a shorter cut that was broken off, whole pages old or mended; a run after it that was broken
-/// off too; and the full run after each: all end as the full run alone.
+/// A run from the same or a shorter cut, with zeros behind it, that was broken off, whole pages old or mended; a run after
+/// it that was broken off too; and the full run after each: all end as the full run alone.
 fn repeated(subject: &mut Subject, seen: &mut Seen, given: Given, once: &Left) {
     let Some(earlier) = &subject.case.earlier else {
         return;
     };
+    let earlier_log = earlier.log(given.log);
     let first_given = Given {
         floor: earlier.floor,
-        log: &given.log[..earlier.cut],
+        log: &earlier_log,
         ..given
     };
     let first = both(subject, seen, "of the earlier cut", first_given);
     if first.answer.number != 0 {
         seen.event("earlier run refused");
+    } else if earlier.zeros > 0 {
+        seen.event("earlier run with zeros behind its cut");
     }
     let left = mixture(given.pages, &first.pages, |index| earlier.mended[index]);
     if left != given.pages && left != first.pages {

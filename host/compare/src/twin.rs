@@ -21,6 +21,7 @@ pub fn answer(of: oracle::Answer) -> library::Answer {
         changes_unended: of.changes_unended,
         changes_zero: of.changes_zero,
         pages_rewritten: of.pages_rewritten,
+        ending: of.ending,
     }
 }
 
@@ -152,6 +153,7 @@ pub fn forward(place: u64, of: oracle::Step) -> library::Step {
         oracle::Step::Entry(of) => entry(of.offset + of.length, of),
         oracle::Step::End => no_entry(library::STEP_END, place),
         oracle::Step::Torn => no_entry(library::STEP_TORN, place),
+        oracle::Step::Unused => no_entry(library::STEP_UNUSED, place),
         oracle::Step::Damage => no_entry(library::STEP_DAMAGED, place),
     }
 }

@@ -1,7 +1,9 @@
 //! One complete input for every seed, of a kind that the seed chooses.
 
 use crate::draft::Draft;
+use crate::entry::LOG_HEADER_BYTES;
 use crate::history::History;
+use crate::ledger::whole_entries;
 use crate::mutate::{mutations, Aim, Mutation};
 use crate::page::{get_u16, get_u64, PAGE_BYTES};
 use crate::rng::Rng;
@@ -37,27 +39,47 @@ pub struct Case {
 #[derive(Clone, Debug)]
 pub struct Honest {
     pub start_pages: Vec<u8>,
-    /// The history's whole log; the case's log is a cut of it.
+    /// The history's whole log; the case's log is a cut of it, with zero bytes
+    /// behind.
     pub whole_log: Vec<u8>,
+    pub cut: usize,
+    pub zeros: usize,
     /// Where the last change that any page has felt ends in the whole log.
     pub felt_end: usize,
 }
 
 impl Honest {
-    /// Whether a cut has every change that the pages have felt, so that the
+    /// Whether the cut has every change that the pages have felt, so that the
     /// mended pages must be as the ledger says.
-    pub fn has_felt_changes(&self, cut: usize) -> bool {
-        cut >= self.felt_end
+    pub fn has_felt_changes(&self) -> bool {
+        self.cut >= self.felt_end
+    }
+
+    /// Whether the last entry, which ends at a place, has taken its last bytes
+    /// from the zeros.
+    pub fn completed(&self, end: u64) -> bool {
+        end > self.cut as u64
     }
 }
 
 #[derive(Clone, Debug)]
 pub struct Earlier {
     pub floor: u64,
-    /// How many bytes of the case's log the earlier run was given.
+    /// How many bytes of the case's log the earlier run was given, and how many
+    /// zero bytes behind them: not more in all than the case's log has.
     pub cut: usize,
+    pub zeros: usize,
     /// Which pages it had mended before the power failed.
     pub mended: Vec<bool>,
+}
+
+impl Earlier {
+    /// The log that the earlier run was given.
+    pub fn log(&self, later: &[u8]) -> Vec<u8> {
+        let mut log = later[..self.cut].to_vec();
+        log.resize(self.cut + self.zeros, 0);
+        log
+    }
 }
 
 /// The input of a seed: the same on every machine.
@@ -90,8 +112,9 @@ pub fn case(seed: u64) -> Case {
     }
 }
 
-/// Pages at moments of an honest history and a cut of its log; in four of five
-/// cases the cut has every change that the pages have felt.
+/// Pages at moments of an honest history and a cut of its log, in half of the
+/// cases with zeros behind it; in four of five the cut has every change that the
+/// pages have felt.
 fn honest(rng: &mut Rng, seed: u64) -> Case {
     let style = Style::any(rng);
     let strays = rng.one_in(5);
@@ -102,22 +125,44 @@ fn honest(rng: &mut Rng, seed: u64) -> Case {
     } else {
         ("honest", history.cut_from(rng, moments.felt_end))
     };
-    let draft = Draft::from_parts(rng, &history, moments.pages, cut);
+    let zeros = if rng.one_in(2) { 0 } else { some_zeros(rng) };
+    let draft = Draft::from_parts(rng, &history, moments.pages, cut, zeros);
     let mut case = finish(rng, seed, kind, draft);
     case.honest = Some(Honest {
         start_pages: history.start_pages,
         whole_log: history.log,
+        cut,
+        zeros,
         felt_end: moments.felt_end,
     });
     with_earlier_run(rng, case)
 }
 
-/// Adds an earlier run from the same or a shorter cut, with its own floor.
-fn with_earlier_run(rng: &mut Rng, case: Case) -> Case {
-    let cut = if rng.one_in(4) {
-        case.log.len()
+/// How many zero bytes stand behind a cut: few, or many.
+fn some_zeros(rng: &mut Rng) -> usize {
+    if rng.one_in(3) {
+        rng.size(1, 300)
     } else {
-        rng.size(32, case.log.len())
+        rng.size(1, 9)
+    }
+}
+
+/// Adds an earlier run from the same or a shorter cut, with its own floor, and
+/// with zeros behind it where its file is not longer.
+fn with_earlier_run(rng: &mut Rng, case: Case) -> Case {
+    let whole = case.log.len();
+    let cut = match rng.below(4) {
+        0 => whole,
+        // Near the end of an entry, so that zeros may complete it.
+        1 => end_of_some_entry(rng, &case.log)
+            .saturating_sub(rng.size(0, 4))
+            .max(32),
+        _ => rng.size(32, whole),
+    };
+    let zeros = match rng.below(3) {
+        0 => 0,
+        1 => whole - cut,
+        _ => some_zeros(rng).min(whole - cut),
     };
     let floor = if rng.one_in(5) {
         rng.number()
@@ -127,11 +172,25 @@ fn with_earlier_run(rng: &mut Rng, case: Case) -> Case {
     let mended = (0..case.pages.len() / PAGE_BYTES)
         .map(|_| rng.one_in(2))
         .collect();
-    let earlier = Earlier { floor, cut, mended };
+    let earlier = Earlier {
+        floor,
+        cut,
+        zeros,
+        mended,
+    };
     Case {
         earlier: Some(earlier),
         ..case
     }
+}
+
+/// Where some whole entry of a log ends, or the first would start.
+fn end_of_some_entry(rng: &mut Rng, log: &[u8]) -> usize {
+    let mut ends = vec![LOG_HEADER_BYTES];
+    for entry in whole_entries(log) {
+        ends.push(ends[ends.len() - 1] + entry.encode().len());
+    }
+    *rng.pick(&ends)
 }
 
 /// An input that a mutation can be applied to, so that its aim holds. Where the

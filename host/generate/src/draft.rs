@@ -68,19 +68,28 @@ impl Draft {
         let history = History::random(rng, style, false);
         let moments = history.at_moments(rng);
         let cut = history.cut_from(rng, moments.felt_end);
-        Draft::from_parts(rng, &history, moments.pages, cut)
+        Draft::from_parts(rng, &history, moments.pages, cut, 0)
     }
 
-    /// A draft of a history's log up to a cut, with pages as they are given.
-    pub fn from_parts(rng: &mut Rng, history: &History, pages: Vec<u8>, cut: usize) -> Draft {
-        let entries = whole_entries(&history.log[..cut]);
+    /// A draft of a history's log up to a cut, with zero bytes behind it and
+    /// pages as they are given.
+    pub fn from_parts(
+        rng: &mut Rng,
+        history: &History,
+        pages: Vec<u8>,
+        cut: usize,
+        zeros: usize,
+    ) -> Draft {
+        let mut log = history.log[..cut].to_vec();
+        log.resize(cut + zeros, 0);
+        let entries = whole_entries(&log);
         let begins = entries.iter().filter(|entry| entry.kind == BEGIN).count();
         let page_count = pages.len() / PAGE_BYTES;
         Draft {
             magic: history.magic,
             floor: history.floor,
             header: history.header.clone(),
-            tail: history.log[history.offsets[entries.len()]..cut].to_vec(),
+            tail: log[history.offsets[entries.len()]..].to_vec(),
             pieces: entries.iter().map(Entry::encode).collect(),
             records: begins + rng.size(0, 2),
             page: rng.below(page_count as u64 + 1),

@@ -177,6 +177,15 @@ pub fn seal_entry(bytes: &mut [u8]) {
     bytes[end..end + 4].copy_from_slice(&crc.to_le_bytes());
 }
 
+/// Whether an entry's bytes have their length at both ends and a right checksum.
+pub fn is_sealed(bytes: &[u8]) -> bool {
+    let length = (bytes.len() as u32).to_le_bytes();
+    let end = bytes.len() - 8;
+    bytes[..4] == length
+        && bytes[end + 4..] == length
+        && bytes[end..end + 4] == crc32c(&bytes[..end]).to_le_bytes()
+}
+
 /// A log header: magic, version 1, and the given bytes that no one reads.
 pub fn log_header(ignored: &[u8; 26]) -> Vec<u8> {
     let mut header = b"WALN".to_vec();

@@ -1,9 +1,9 @@
 //! The ledger of a cut: what each slot must hold, told from the starting pages
-//! and the cut log alone.
+//! and the cut log alone, with the zeros behind it.
 
 use std::collections::{BTreeMap, BTreeSet};
 
-use crate::entry::{Entry, COMMIT, LOG_HEADER_BYTES};
+use crate::entry::{is_sealed, Entry, COMMIT, LOG_HEADER_BYTES};
 use crate::page::{page_type, slots_of, DATA, PAGE_BYTES};
 
 /// The tuple of every filled slot of every page of type 1.
@@ -22,13 +22,14 @@ pub fn tuples_on(pages: &[u8]) -> Ledger {
     tuples
 }
 
-/// The whole entries of the cut log of an honest history, in order.
+/// The whole entries of the cut log of an honest history, with or without zeros
+/// behind the cut, in order.
 pub fn whole_entries(log: &[u8]) -> Vec<Entry> {
     let mut entries = Vec::new();
     let mut rest = &log[LOG_HEADER_BYTES..];
     while rest.len() >= 4 {
         let length = u32::from_le_bytes(rest[..4].try_into().expect("length")) as usize;
-        if length > rest.len() {
+        if length < 43 || length > rest.len() || !is_sealed(&rest[..length]) {
             break;
         }
         entries.push(Entry::decode(&rest[..length]));

@@ -96,13 +96,15 @@ impl History {
     }
 
     /// A cut of the log that does not come before a byte: anywhere, at the end
-    /// of an entry, or a few bytes past one, so that the tail is torn in any way.
+    /// of an entry, a few bytes past one, so that the tail is torn in any way, or
+    /// a few bytes before it, so that zeros may complete the entry.
     pub fn cut_from(&self, rng: &mut Rng, least: usize) -> usize {
         let whole = self.log.len();
-        match rng.below(4) {
+        match rng.below(5) {
             0 => whole,
             1 => rng.size(least, whole),
             2 => (*rng.pick(&self.offsets)).clamp(least, whole),
+            3 => (*rng.pick(&self.offsets) - rng.size(1, 3)).clamp(least, whole),
             _ => (*rng.pick(&self.offsets) + rng.size(1, 4)).clamp(least, whole),
         }
     }

@@ -23,6 +23,10 @@ pub const MUTATIONS: &[Mutation] = &[
     Mutation::new("old length", 4, old_length),
     Mutation::new("new length", 4, new_length),
     Mutation::new("damage after the last entry", 4, damaged_tail),
+    Mutation::new("zeros and a byte that is not", 4, spoiled_zeros),
+    Mutation::new("zeros, 1 to 3", 0, few_zeros),
+    Mutation::new("zeros, 4 or more", 0, many_zeros),
+    Mutation::new("length cut after a low byte 0, zeros", 0, cut_length),
     Mutation::new("tail of 1 to 3 bytes", 0, shortest_tail),
     Mutation::new("tail that lacks a byte or more", 0, torn_entry),
     Mutation::new("longest length past the end", 0, longest_tail),
@@ -165,9 +169,45 @@ fn new_length(rng: &mut Rng, draft: &mut Draft) -> u64 {
 fn damaged_tail(rng: &mut Rng, draft: &mut Draft) -> u64 {
     let length = rng.size(4, 60);
     draft.tail = rng.bytes(length);
-    let field = *rng.pick(&[0, 42, 32_706, u32::MAX]);
+    let field = *rng.pick(&[42, 42, 32_706, u32::MAX]);
     put_u32(&mut draft.tail, 0, field);
     draft.offset(draft.pieces.len())
+}
+
+/// A zero length with a later byte that is not zero, the last one mostly.
+fn spoiled_zeros(rng: &mut Rng, draft: &mut Draft) -> u64 {
+    let length = rng.size(5, 60);
+    draft.tail = vec![0; length];
+    let at = if rng.one_in(3) {
+        rng.size(4, length - 1)
+    } else {
+        length - 1
+    };
+    draft.tail[at] = 1 << rng.below(8);
+    draft.offset(draft.pieces.len())
+}
+
+fn few_zeros(rng: &mut Rng, draft: &mut Draft) -> u64 {
+    draft.tail = vec![0; rng.size(1, 3)];
+    0
+}
+
+fn many_zeros(rng: &mut Rng, draft: &mut Draft) -> u64 {
+    let length = *rng.pick(&[4, 5, 7, 8, 9, 15, 16, 17, 43, 4_096]);
+    draft.tail = vec![0; length];
+    0
+}
+
+/// The first byte of an entry of 256 bytes, and zeros: with three or more of
+/// them the log ends unused, with fewer torn.
+fn cut_length(rng: &mut Rng, draft: &mut Draft) -> u64 {
+    let tuple = any_tuple(rng, 256 - 53);
+    draft.tail = Entry::insert(rng.number(), rng.number(), 0, &tuple)
+        .with_lsn(rng.number())
+        .encode();
+    draft.tail.truncate(1);
+    draft.tail.resize(1 + rng.size(0, 6), 0);
+    0
 }
 
 fn shortest_tail(rng: &mut Rng, draft: &mut Draft) -> u64 {

@@ -28,11 +28,17 @@ pub const RECORD_NUMBERS: usize = Record::NAMES.len();
 /// How many numbers of a listing make one row.
 pub const ROW_NUMBERS: usize = Listed::NAMES.len();
 
-/// Kinds of a step: an entry; forward the exact end, backward none; a torn tail; damage.
+/// Kinds of a step: an entry; forward the exact end, backward none; a torn tail; unused room; damage.
 pub const STEP_ENTRY: u64 = 0;
 pub const STEP_END: u64 = 1;
 pub const STEP_TORN: u64 = 2;
+pub const STEP_UNUSED: u64 = 3;
 pub const STEP_DAMAGED: u64 = 4;
+
+/// How a log ends: exactly, in a torn tail, or in room set aside.
+pub const ENDED_EXACTLY: u64 = 0;
+pub const ENDED_TORN: u64 = 1;
+pub const ENDED_UNUSED: u64 = 2;
 
 /// Outcomes of a transaction.
 pub const UNENDED: u64 = 0;
@@ -80,9 +86,9 @@ numbers! {
 
 numbers! {
     /// What recovery answers. Refused, all but number and place are 0.
-    Answer: 12 {
+    Answer: 13 {
         number, place, last_lsn, tail_offset, committed, rolled_back, unended,
-        changes_committed, changes_rolled_back, changes_unended, changes_zero, pages_rewritten
+        changes_committed, changes_rolled_back, changes_unended, changes_zero, pages_rewritten, ending
     }
 }
 

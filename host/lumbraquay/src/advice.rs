@@ -1,5 +1,7 @@
 //! What a refusal means to the one who reads it: where it stands, what is found there and what to do.
 
+use std::path::Path;
+
 use library::refusal::{self, Place};
 use library::{Verdict, PAGE_BYTES};
 
@@ -55,7 +57,9 @@ pub fn text(verdict: Verdict, read: Read) -> String {
     let Verdict { number, place } = verdict;
     let name = refusal::refusal(number).map_or("unknown", |refusal| refusal.name);
     let place = match (place_of(number), read.pages, read.log) {
-        (Place::Nothing, _, _) => String::new(),
+        (Place::Nothing, _, _) => {
+            file_of(number, read).map_or(String::new(), |path| format!(" of {}", path.display()))
+        }
         (Place::LogOffset, _, Some(log)) => format!(" at offset {place} of {}", log.path.display()),
         (Place::LogOffset, _, None) => format!(" at offset {place} of the log"),
         (Place::PageIndex, Some(pages), _) => format!(
@@ -86,6 +90,15 @@ pub fn text(verdict: Verdict, read: Read) -> String {
     text + "No file was changed."
 }
 
+/// The file that a refusal without a place speaks of.
+fn file_of(number: u64, read: Read<'_>) -> Option<&Path> {
+    match number {
+        refusal::PAGE_AREA => read.pages.map(|pages| pages.path.as_path()),
+        refusal::LOG_TOO_LONG | refusal::LOG_HEADER => read.log.map(|log| log.path.as_path()),
+        _ => None,
+    }
+}
+
 fn place_of(number: u64) -> Place {
     refusal::refusal(number).map_or(Place::Nothing, |refusal| refusal.place)
 }
@@ -99,12 +112,20 @@ fn meaning(number: u64) -> &'static str {
 /// What to do about a refusal, with what is known of the files.
 fn advice(verdict: Verdict, read: Read) -> String {
     if is_swapped(verdict, read) {
-        return "the page file starts with WALN, as logs do: give PAGES first, then LOG"
-            .to_string();
+        return match read.is_catalog {
+            true => "it starts with WALN, as logs do: give --catalog the page file that holds the catalog",
+            false => "the page file starts with WALN, as logs do: give PAGES first, then LOG",
+        }
+        .to_string();
     }
-    let mut parts = vec![general(verdict.number).to_string()];
+    let mut parts = vec![match (verdict.number, read.is_catalog) {
+        (refusal::PAGE_MAGIC_OR_TYPE, true) => CATALOG_MAGIC_OR_TYPE,
+        (number, _) => general(number),
+    }
+    .to_string()];
     if is_page_file(verdict, read) {
-        parts.push("by its length it may be a page file: PAGES comes first, then LOG".to_string());
+        let order = read.pages.map_or("", |_| ": PAGES comes first, then LOG");
+        parts.push(format!("by its length it may be a page file{order}"));
     }
     parts.extend(read.log.and_then(|log| until(verdict, log)));
     parts.extend(read.pages.and_then(|pages| wrong_magic(verdict, pages)));
@@ -138,9 +159,8 @@ fn until(verdict: Verdict, log: &Log) -> Option<String> {
     if verdict.number != refusal::ENTRY_DAMAGED {
         return None;
     }
-    let After { zeros, next, bytes } = after_damage(log, verdict.place)?;
+    let After { next, bytes } = after_damage(log, verdict.place)?;
     let left_out = match next {
-        _ if zeros => format!("the {bytes} zero bytes"),
         None => format!("the {bytes} bytes from there on, in which no whole entry follows"),
         Some(next) => format!(
             "the {bytes} bytes from there on, with {} or more; transactions that end only there count as unended",
@@ -152,6 +172,9 @@ fn until(verdict: Verdict, log: &Log) -> Option<String> {
         verdict.place
     ))
 }
+
+/// The pages of --catalog are judged by the magic of their page 0 alone.
+const CATALOG_MAGIC_OR_TYPE: &str = "if the magic is what differs, see that this is the page file; else put the page back from a backup or the double-write file";
 
 fn general(number: u64) -> &'static str {
     match number {

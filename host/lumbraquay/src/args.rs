@@ -251,6 +251,9 @@ impl Parsed {
                 _ => (),
             }
         }
+        if let Some(catalog) = self.chosen_path(CATALOG.name) {
+            fields.push(("catalog_file", Json::text(catalog.display())));
+        }
         let known = self
             .magic
             .get()

@@ -238,8 +238,6 @@ fn needed(pages: &Pages, log: &Log, index: u64) -> Option<String> {
 
 /// What follows on damage.
 pub struct After {
-    /// All bytes from there on are 0.
-    pub zeros: bool,
     /// The entries from the next whole one on, up to where none stands.
     pub next: Option<Next>,
     pub bytes: u64,
@@ -254,13 +252,8 @@ pub struct Next {
 
 pub fn after_damage(log: &Log, place: u64) -> Option<After> {
     let rest = log.bytes.get(place as usize..)?;
-    let zeros = rest.iter().all(|byte| *byte == 0);
     Some(After {
-        zeros,
-        next: match zeros {
-            true => None,
-            false => next_entry(&log.bytes, place + 1),
-        },
+        next: next_entry(&log.bytes, place + 1),
         bytes: rest.len() as u64,
     })
 }
@@ -296,10 +289,16 @@ fn next_entry(log: &[u8], place: u64) -> Option<Next> {
 }
 
 fn damage(log: &Log, place: u64) -> Option<String> {
-    let length = u32::from_le_bytes(*log.bytes.get(place as usize..)?.first_chunk()?);
-    let After { zeros, next, bytes } = after_damage(log, place)?;
+    let rest = log.bytes.get(place as usize..)?;
+    let length = match u32::from_le_bytes(*rest.first_chunk()?) {
+        0 => {
+            let used = rest.iter().position(|byte| *byte != 0)?;
+            format!("0, but the byte at offset {} is not", place + used as u64)
+        }
+        length => length.to_string(),
+    };
+    let After { next, bytes } = after_damage(log, place)?;
     Some(match next {
-        _ if zeros => format!("all {bytes} bytes from there on are 0"),
         None => format!("no whole entry; its length reads {length}, and no whole entry follows in the {bytes} bytes from there on"),
         Some(next) => format!(
             "no whole entry; its length reads {length}. From offset {} on whole entries follow: {}, LSN {} to {}, {} among them",

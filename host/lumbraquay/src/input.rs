@@ -124,8 +124,13 @@ impl Pages {
     }
 
     pub fn fields(&self) -> Vec<(&'static str, Json)> {
+        self.fields_of("pages_file")
+    }
+
+    /// The same under this name of the file.
+    fn fields_of(&self, file: &'static str) -> Vec<(&'static str, Json)> {
         vec![
-            ("pages_file", Json::text(self.path.display())),
+            (file, Json::text(self.path.display())),
             ("pages", self.count().into()),
             ("magic", Json::text(format_args!("{:#x}", self.magic))),
             ("magic_from", self.magic_from().into()),
@@ -254,6 +259,8 @@ pub struct Read<'a> {
     pub floor: u64,
     /// Whether every bad page is already told.
     pub all_listed: bool,
+    /// Whether the pages are those of --catalog.
+    pub is_catalog: bool,
 }
 
 impl<'a> Read<'a> {
@@ -268,6 +275,14 @@ impl<'a> Read<'a> {
         Read {
             log: Some(log),
             ..Read::default()
+        }
+    }
+
+    /// The pages of --catalog, beside a log.
+    pub fn catalog(pages: &'a Pages, log: &'a Log) -> Read<'a> {
+        Read {
+            is_catalog: true,
+            ..Read::both(pages, log, 0)
         }
     }
 
@@ -302,7 +317,11 @@ pub fn head_fields(parsed: &Parsed, result: &str, verdict: Verdict) -> Vec<(&'st
 
 impl Read<'_> {
     pub fn fields(&self) -> Vec<(&'static str, Json)> {
-        let mut fields = self.pages.map_or(Vec::new(), Pages::fields);
+        let file = match self.is_catalog {
+            true => "catalog_file",
+            false => "pages_file",
+        };
+        let mut fields = self.pages.map_or(Vec::new(), |pages| pages.fields_of(file));
         fields.extend(self.log.map_or(Vec::new(), Log::fields));
         fields.extend(self.summary.map_or(Vec::new(), Summary::fields));
         fields

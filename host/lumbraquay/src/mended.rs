@@ -1,7 +1,10 @@
 //! Pages that were mended by a log: what the library answered, and the bytes that it left.
 
 use library::refusal::{self, Place};
-use library::{Answer, Record, LOG_HEAD_BYTES, PAGE_BYTES, RECORD_NUMBERS, SHORTEST_ENTRY_BYTES};
+use library::{
+    Answer, Record, ENDED_TORN, ENDED_UNUSED, LOG_HEAD_BYTES, PAGE_BYTES, RECORD_NUMBERS,
+    SHORTEST_ENTRY_BYTES,
+};
 
 use crate::args::Parsed;
 use crate::changes::{changes, Change};
@@ -68,17 +71,28 @@ impl Mended {
         changes(&self.pages.bytes, &self.new, &self.log.bytes)
     }
 
-    pub fn torn_bytes(&self) -> u64 {
+    /// The bytes of the log behind its last whole entry.
+    pub fn left_out_bytes(&self) -> u64 {
         self.log.bytes.len() as u64 - self.answer.tail_offset
+    }
+
+    /// Those bytes, if the log ends so.
+    fn left_out_if(&self, ending: u64) -> u64 {
+        match self.answer.ending == ending {
+            true => self.left_out_bytes(),
+            false => 0,
+        }
     }
 
     pub fn tell(&self, output: &mut Output, transactions: bool) -> Result<(), Failure> {
         let answer = &self.answer;
         output.line(self.pages.line())?;
         output.line(format_args!("{}, floor {}", self.log.line(), self.floor))?;
-        let tail = match self.torn_bytes() {
-            0 => "nothing torn".to_string(),
-            torn => format!("torn tail of {torn} bytes at offset {}", answer.tail_offset),
+        let (bytes, place) = (self.left_out_bytes(), answer.tail_offset);
+        let tail = match answer.ending {
+            ENDED_TORN => format!("torn tail of {bytes} bytes at offset {place}"),
+            ENDED_UNUSED => format!("unused room of {bytes} bytes at offset {place}"),
+            _ => "nothing torn".to_string(),
         };
         output.line(format_args!(
             "  log:          last LSN {}, {tail}",
@@ -123,7 +137,9 @@ impl Mended {
             ("floor", self.floor.into()),
             ("last_lsn", answer.last_lsn.into()),
             ("tail_offset", answer.tail_offset.into()),
-            ("torn_bytes", self.torn_bytes().into()),
+            ("ending", show::ending(answer.ending).into()),
+            ("torn_bytes", self.left_out_if(ENDED_TORN).into()),
+            ("unused_bytes", self.left_out_if(ENDED_UNUSED).into()),
             ("committed", answer.committed.into()),
             ("rolled_back", answer.rolled_back.into()),
             ("unended", answer.unended.into()),

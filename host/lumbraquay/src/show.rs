@@ -51,6 +51,15 @@ pub fn outcome(number: u64) -> &'static str {
     }
 }
 
+/// How a log ends.
+pub fn ending(number: u64) -> &'static str {
+    match number {
+        library::ENDED_TORN => "torn",
+        library::ENDED_UNUSED => "unused",
+        _ => "exact",
+    }
+}
+
 /// The layout of a table.
 pub fn layout(number: u64) -> &'static str {
     match number {
@@ -60,11 +69,14 @@ pub fn layout(number: u64) -> &'static str {
     }
 }
 
-/// A name that is plain bytes: as it is where that is a word, else as a payload.
+/// A name that is plain bytes: as it is where that is a word that starts with no digit, as hexadecimal digits do, else as
+/// a payload.
 pub fn name_of_bytes(bytes: &[u8]) -> String {
-    let is_word = |byte: &u8| byte.is_ascii_alphanumeric() || *byte == b'_';
+    let is_letter = |byte: &u8| byte.is_ascii_alphanumeric() || *byte == b'_';
+    let is_word =
+        bytes.first().is_some_and(|first| !first.is_ascii_digit()) && bytes.iter().all(is_letter);
     match std::str::from_utf8(bytes) {
-        Ok(text) if !text.is_empty() && bytes.iter().all(is_word) => text.to_string(),
+        Ok(text) if is_word => text.to_string(),
         _ => payload(bytes, usize::MAX),
     }
 }

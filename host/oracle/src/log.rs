@@ -55,6 +55,8 @@ pub enum Step {
     Entry(EntryFields),
     End,
     Torn,
+    /// Room set aside: 4 or more bytes are left and all are zero.
+    Unused,
     Damage,
 }
 
@@ -113,9 +115,10 @@ fn whole_entry(log: &[u8], offset: usize, length: usize) -> Option<EntryFields> 
 }
 
 /// What stands at a place: nothing left ends the log; 1 to 3 bytes are a torn
-/// tail; a length out of bounds is damage; a length above what is left is a
-/// torn tail; and an entry that is not whole is damage. A place below 32 or
-/// past the log gives the exact end.
+/// tail; where 4 or more are left and all are zero, the log ends there, unused;
+/// a length out of bounds is damage, a zero length with any later non-zero byte
+/// among them; a length above what is left is a torn tail; and an entry that is
+/// not whole is damage. A place below 32 or past the log gives the exact end.
 pub fn forward(log: &[u8], place: u64) -> Step {
     if place < LOG_HEADER_BYTES as u64 || place > log.len() as u64 {
         return Step::End;
@@ -127,6 +130,9 @@ pub fn forward(log: &[u8], place: u64) -> Step {
     }
     if left <= 3 {
         return Step::Torn;
+    }
+    if log[offset..].iter().all(|&byte| byte == 0) {
+        return Step::Unused;
     }
     let length = u32_at(log, offset) as usize;
     if !ENTRY_LENGTHS.contains(&length) {
@@ -159,7 +165,7 @@ pub fn backward(log: &[u8], place: u64) -> Option<EntryFields> {
 }
 
 /// The log reader starts at byte 32 or at the end found by walking, where the
-/// first damage, tail or exact end stands. It refuses 2 and 3, and its place is
+/// first damage, tail, unused room or exact end stands. It refuses 2 and 3, and its place is
 /// then 0.
 pub fn log_open(log: &[u8], at_end: bool) -> Verdict {
     if let Err(refusal) = check_header(log) {

@@ -60,6 +60,8 @@ pub(crate) struct Change {
 pub(crate) struct ReadLog {
     pub last_lsn: u64,
     pub tail_offset: u64,
+    /// How the log ends there: exactly (0), torn (1) or unused (2).
+    pub ending: u64,
     /// One record per Begin, in log order.
     pub transactions: Vec<Record>,
     /// Every change entry, in log order.
@@ -225,12 +227,14 @@ pub(crate) fn read_log(log: &[u8], records: Option<usize>) -> Result<ReadLog, Re
     let mut changes = Vec::new();
     let mut last_lsn = 0;
     let mut place = LOG_HEADER_BYTES as u64;
-    loop {
+    let ending = loop {
         let entry = match forward(log, place) {
             Step::Entry(entry) => entry,
             Step::Damage => return Err(Refusal::new(4, place)),
-            // A torn tail ends the log and is accepted.
-            Step::End | Step::Torn => break,
+            // A torn tail or unused room ends the log and is accepted.
+            Step::End => break 0,
+            Step::Torn => break 1,
+            Step::Unused => break 2,
         };
         if !known_type(entry.kind) {
             return Err(Refusal::new(5, place));
@@ -267,10 +271,11 @@ pub(crate) fn read_log(log: &[u8], records: Option<usize>) -> Result<ReadLog, Re
         }
         last_lsn = entry.lsn;
         place += entry.length;
-    }
+    };
     Ok(ReadLog {
         last_lsn,
         tail_offset: place,
+        ending,
         transactions: standing.records,
         changes,
     })

@@ -23,6 +23,8 @@ pub struct Answer {
     pub changes_unended: u64,
     pub changes_zero: u64,
     pub pages_rewritten: u64,
+    /// The log ends exactly (0), torn (1) or unused (2).
+    pub ending: u64,
 }
 
 /// One transaction of the log. Outcome: 0 unended, 1 committed, 2 rolled back.
@@ -75,6 +77,7 @@ fn count(read: &ReadLog) -> Answer {
     let mut answer = Answer {
         last_lsn: read.last_lsn,
         tail_offset: read.tail_offset,
+        ending: read.ending,
         ..Answer::default()
     };
     for record in &read.transactions {

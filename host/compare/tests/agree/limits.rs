@@ -39,6 +39,9 @@ fn the_cases_are_at_the_limits() {
     assert_eq!(sizes("one page byte more").0, most + 1);
     assert_eq!(sizes("the longest log").1, LOG_LIMIT_BYTES);
     assert_eq!(sizes("the longest log, torn").1, LOG_LIMIT_BYTES);
+    let all_zero = named("the longest log, all zero").log;
+    assert_eq!(all_zero.len(), LOG_LIMIT_BYTES);
+    assert!(all_zero[32..].iter().all(|&byte| byte == 0));
     assert_eq!(sizes("one log byte more").1, LOG_LIMIT_BYTES + 1);
     assert!(named("as many transactions as fit").records == (LOG_LIMIT_BYTES - 32) / 43);
 

@@ -90,13 +90,12 @@ fn both_programs_agree_on_every_seed() {
     let seen = seen();
     assert_no_differences(seen);
     assert_eq!(seen.cases, SEEDS.end - SEEDS.start);
-    for kind in 0..=2 {
+    for kind in 0..=4 {
         assert!(
             seen.times("log_forward", kind) > 10_000,
             "step of kind {kind}"
         );
     }
-    assert!(seen.times("log_forward", 4) > 10_000);
     assert!(seen.times("log_backward", 0) > 10_000);
     assert_often(
         seen,
@@ -134,10 +133,16 @@ fn honest_histories_end_as_their_ledgers_say() {
     assert_often(
         seen,
         &[
-            ("ledger", 4_000),
-            ("repeated recovery", 5_000),
+            ("ledger", 3_000),
+            ("ledger, zeros behind the cut", 1_000),
+            ("ledger, an entry completed by zeros", 100),
+            ("log that ends exactly", 2_000),
+            ("log that ends torn", 1_000),
+            ("log that ends unused", 1_000),
+            ("repeated recovery", 4_000),
             ("mixture of old and mended pages", 500),
             ("earlier run refused", 100),
+            ("earlier run with zeros behind its cut", 500),
         ],
     );
 }

@@ -117,6 +117,16 @@ pub fn pages_by_ledger(pages: &[u8], log: &[u8], ledger: &Ledger) -> Vec<u8> {
     expected
 }
 
+/// How a log ends behind its entries: exactly (0), torn (1) or unused (2).
+fn ending_of(left: &[u8]) -> u64 {
+    match left.len() {
+        0 => 0,
+        1..=3 => 1,
+        _ if left.iter().all(|&byte| byte == 0) => 2,
+        _ => 1,
+    }
+}
+
 /// The answer and the table that an accepted log must give, counted anew.
 pub fn answer_by_count(case: &Case, log: &[u8]) -> (Answer, Vec<Record>) {
     let entries = whole_entries(log);
@@ -129,9 +139,11 @@ pub fn answer_by_count(case: &Case, log: &[u8]) -> (Answer, Vec<Record>) {
         let by = changes.iter().filter(|change| change.transaction == number);
         by.count() as u64
     };
+    let tail = 32 + entries.iter().map(|e| e.encode().len()).sum::<usize>();
     let mut answer = Answer {
         last_lsn: entries.last().map_or(0, |entry| entry.lsn),
-        tail_offset: 32 + entries.iter().map(|e| e.encode().len() as u64).sum::<u64>(),
+        tail_offset: tail as u64,
+        ending: ending_of(&log[tail..]),
         changes_zero: changes_of(0),
         ..Answer::default()
     };

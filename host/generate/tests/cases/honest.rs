@@ -13,16 +13,19 @@ fn honest_cases(seeds: u64) -> impl Iterator<Item = Case> {
 #[test]
 fn accepted_recovery_gives_the_ledger() {
     let (mut compared, mut tuples, mut overfull, mut stray) = (0, 0, 0, 0);
+    let (mut spoiled, mut unused, mut completed) = (0, 0, 0);
     for case in honest_cases(9_000) {
         let honest = case.honest.as_ref().unwrap();
         let outcome = run(&case);
         if outcome.answer.number != 0 {
             assert_refused_cleanly(&case, &case.pages, &outcome);
         }
-        if !honest.has_felt_changes(case.log.len()) {
+        if !honest.has_felt_changes() {
             continue;
         }
         match outcome.answer.number {
+            // A cut inside an entry, with zeros behind it.
+            4 => spoiled += u64::from(honest.zeros > 0),
             13 => stray += 1,
             14 => overfull += 1,
             number => {
@@ -36,10 +39,14 @@ fn accepted_recovery_gives_the_ledger() {
                 assert_eq!(outcome.table, table, "seed {}", case.seed);
                 compared += 1;
                 tuples += ledger.len();
+                unused += u64::from(answer.ending == 2);
+                completed += u64::from(honest.completed(answer.tail_offset));
             }
         }
     }
     println!("compared {compared} with {tuples} tuples, 13: {stray}, 14: {overfull}");
+    println!("4: {spoiled}, unused: {unused}, completed by zeros: {completed}");
+    assert!(spoiled > 50 && unused > 300 && completed > 30);
     assert!(compared > 2_000 && tuples > 15_000);
     assert!(stray > 20 && overfull > 50);
 }
@@ -56,7 +63,7 @@ fn mixture(old: &[u8], new: &[u8], mended: impl Fn(usize) -> bool) -> Vec<u8> {
 
 #[test]
 fn repeated_runs_end_in_the_same_bytes() {
-    let (mut compared, mut mixed, mut refused_first) = (0, 0, 0);
+    let (mut compared, mut mixed, mut refused_first, mut zeros) = (0, 0, 0, 0);
     for case in small_cases(5_500) {
         let Some(earlier) = &case.earlier else {
             continue;
@@ -65,7 +72,8 @@ fn repeated_runs_end_in_the_same_bytes() {
         if once.answer.number != 0 {
             continue;
         }
-        let first = run_on(&case, earlier.floor, &case.pages, &case.log[..earlier.cut]);
+        let first = run_on(&case, earlier.floor, &case.pages, &earlier.log(&case.log));
+        zeros += u64::from(first.answer.number == 0 && earlier.zeros > 0);
         refused_first += u64::from(first.answer.number != 0);
         let left = mixture(&case.pages, &first.pages, |index| earlier.mended[index]);
         mixed += u64::from(left != case.pages && left != first.pages);
@@ -80,7 +88,8 @@ fn repeated_runs_end_in_the_same_bytes() {
         compared += 1;
     }
     println!("compared {compared}, real mixtures {mixed}, first run refused {refused_first}");
-    assert!(compared > 2_000 && mixed > 200 && refused_first > 50);
+    println!("first run accepted with zeros {zeros}");
+    assert!(compared > 1_500 && mixed > 200 && refused_first > 50 && zeros > 100);
 }
 
 #[test]

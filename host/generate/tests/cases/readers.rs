@@ -155,6 +155,7 @@ fn free_map_is_one_bit_per_page() {
 #[test]
 fn backward_from_the_walked_end_is_forward_reversed() {
     let (mut entries, mut torn, mut damaged, mut exact, mut refused) = (0, 0, 0, 0, 0);
+    let mut unused = 0;
     for case in small_cases(5_000) {
         let opened = log_open(&case.log, true);
         if opened.number != 0 {
@@ -174,6 +175,7 @@ fn backward_from_the_walked_end_is_forward_reversed() {
         match forward(&case.log, place) {
             Step::End => exact += 1,
             Step::Torn => torn += 1,
+            Step::Unused => unused += 1,
             _ => damaged += 1,
         }
         let mut backwards = Vec::new();
@@ -187,7 +189,8 @@ fn backward_from_the_walked_end_is_forward_reversed() {
         assert!(backwards == walked, "seed {}", case.seed);
         entries += walked.len();
     }
-    println!("{entries} {torn} {damaged} {exact} {refused}");
+    println!("{entries} {torn} {damaged} {exact} {refused} {unused}");
+    assert!(unused > 200);
     assert!(entries > 20_000 && torn > 500 && damaged > 100 && exact > 500 && refused > 20);
 }
 

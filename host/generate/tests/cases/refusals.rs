@@ -63,7 +63,7 @@ fn every_mutation_is_answered_as_it_aims() {
 fn every_seed_is_answered_as_it_aims() {
     let mut reached: BTreeMap<u64, u64> = BTreeMap::new();
     let mut kinds: BTreeMap<&str, u64> = BTreeMap::new();
-    for seed in 0..6_000 {
+    for seed in 0..9_000 {
         let case = case(seed);
         let aimed = case.aim.map_or(0, |aim| aim.number);
         let answer = answered(&case, aimed);

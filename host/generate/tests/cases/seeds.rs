@@ -50,5 +50,5 @@ fn the_first_cases_stay_the_same() {
     let all: Vec<u8> = (0..300)
         .flat_map(|seed| fingerprint(&case(seed)).to_le_bytes())
         .collect();
-    assert_eq!(crc32c(&all), 1_463_662_800);
+    assert_eq!(crc32c(&all), 2_232_159_353);
 }

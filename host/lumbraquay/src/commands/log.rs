@@ -1,7 +1,9 @@
 //! `log`: the entries of a log, forward or backward.
 
 use library::refusal::ENTRY_DAMAGED;
-use library::{Step, Verdict, LOG_HEAD_BYTES, STEP_DAMAGED, STEP_END, STEP_ENTRY, STEP_TORN};
+use library::{
+    Step, Verdict, LOG_HEAD_BYTES, STEP_DAMAGED, STEP_END, STEP_ENTRY, STEP_TORN, STEP_UNUSED,
+};
 
 use crate::advice::{refusal_fields, text, unless_refused};
 use crate::args::{Choice, Command, Parsed, CATALOG, JSON};
@@ -34,8 +36,9 @@ pub const COMMAND: Command = Command {
         CATALOG,
         JSON,
     ],
-    more: "A torn tail ends a log and is no fault. Damage is refusal 4, told after the entries before it. Backward, PLACE should be\n\
-           the end of an entry: from any other byte a row that contains the bytes of an entry may pass for one.\n\
+    more: "A torn tail, or unused room (zero bytes to the end of the file), ends a log and is no fault. Damage is refusal 4, told\n\
+           after the entries before it. Backward, PLACE should be the end of an entry: from any other byte a row that contains\n\
+           the bytes of an entry may pass for one.\n\
            Of several options that say which entries, an entry has to meet all.",
     run,
 };
@@ -68,15 +71,17 @@ struct Catalog {
 }
 
 impl Catalog {
-    /// What --catalog names, if it is given.
-    fn read(parsed: &Parsed, output: &mut Output) -> Result<Option<Catalog>, Failure> {
-        let Some(pages) = Pages::chosen(parsed, CATALOG.name)? else {
-            return Ok(None);
-        };
+    /// Of the pages that --catalog names.
+    fn of(
+        parsed: &Parsed,
+        output: &mut Output,
+        pages: Pages,
+        log: &Log,
+    ) -> Result<Catalog, Failure> {
         let verdict = library::verify(pages.magic, &pages.bytes);
-        unless_refused(parsed, output, verdict, Read::pages(&pages))?;
+        unless_refused(parsed, output, verdict, Read::catalog(&pages, log))?;
         let names = TableNames::of(&pages);
-        Ok(Some(Catalog { pages, names }))
+        Ok(Catalog { pages, names })
     }
 }
 
@@ -133,8 +138,12 @@ fn run(parsed: &Parsed, output: &mut Output) -> Result<(), Failure> {
     let backward = parsed.flag("--backward");
     let from = parsed.chosen_number("--from")?;
     let limit = parsed.chosen_number("--limit")?.unwrap_or(u64::MAX);
-    let catalog = Catalog::read(parsed, output)?;
+    let pages = Pages::chosen(parsed, CATALOG.name)?;
     let log = Log::read(parsed, 0)?;
+    let catalog = match pages {
+        Some(pages) => Some(Catalog::of(parsed, output, pages, &log)?),
+        None => None,
+    };
     let opened = library::log_open(&log.bytes, backward);
     unless_refused(parsed, output, opened, Read::log(&log))?;
     if let Some(inside) = from.and_then(|from| around(&log, from)) {
@@ -213,6 +222,7 @@ fn end_of(log: &Log, start: &Start, stopped: u64) -> (Step, &'static str) {
     match end.kind {
         STEP_ENTRY => (no_entry(place), "more entries"),
         STEP_TORN => (end, "torn tail"),
+        STEP_UNUSED => (end, "unused room"),
         STEP_DAMAGED => (end, "damage"),
         _ if place == log.bytes.len() as u64 => (end, "exact end"),
         _ => (end, "no place of an entry"),
@@ -286,7 +296,7 @@ fn end_text(output: &mut Output, log: &Log, start: &Start, walked: &Walked) -> R
     let (end, kind) = end_of(log, start, walked.stopped);
     let place = end.next;
     let rest = match end.kind {
-        STEP_TORN => format!(", {} bytes", log.bytes.len() as u64 - place),
+        STEP_TORN | STEP_UNUSED => format!(", {} bytes", log.bytes.len() as u64 - place),
         _ => String::new(),
     };
     let entries = show::count(walked.entries, "entry", "entries");
@@ -365,7 +375,8 @@ fn end_json(
 }
 
 fn entry_fields(log: &Log, start: &Start, step: &Step) -> Vec<(&'static str, Json)> {
-    let (page, slot) = match walk::target(&log.bytes, step) {
+    let target = walk::target(&log.bytes, step);
+    let (page, slot) = match target {
         Some((page, slot)) => (page.into(), u64::from(slot).into()),
         None => (Json::Null, Json::Null),
     };
@@ -379,7 +390,7 @@ fn entry_fields(log: &Log, start: &Start, step: &Step) -> Vec<(&'static str, Jso
         ("table", step.table.into()),
     ];
     if let Some(names) = start.names() {
-        let name = names.get(step.table);
+        let name = target.and_then(|_| names.get(step.table));
         fields.push(("table_name", name.map_or(Json::Null, Json::from)));
     }
     fields.extend([

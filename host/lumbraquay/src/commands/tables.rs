@@ -20,7 +20,8 @@ pub const COMMAND: Command = Command {
         JSON,
     ],
     more: "PAGES holds the catalog's pages, alone or among others. Every visible row whose payload reads as a table's row is listed, so\n\
-           also one of another table that happens to read as one. Rows come as they stand in the file: recover it first.",
+           also one of another table that happens to read as one. The others are counted whatever --limit is. Rows come as they stand in the\n\
+           file: recover it first.",
     run,
 };
 
@@ -32,26 +33,28 @@ fn run(parsed: &Parsed, output: &mut Output) -> Result<(), Failure> {
     unless_refused(parsed, output, verdict, Read::pages(&pages))?;
 
     let mut others = 0;
-    let tables = rows(&pages, library::list_visible, None).filter_map(|row| {
+    let mut tables = rows(&pages, library::list_visible, None).filter_map(|row| {
         let table = TableRow::of(row.at, row.tuple.payload());
         others += u64::from(table.is_none());
         table
     });
     if parsed.flag("--json") {
-        let tables: Vec<Json> = tables
+        let shown: Vec<Json> = tables
+            .by_ref()
             .take(limit)
             .map(|row| Json::Object(row.fields()))
             .collect();
+        tables.for_each(drop);
         let mut fields = head_fields(parsed, "done", verdict);
         fields.extend(pages.fields());
-        fields.push(("tables", Json::List(tables)));
+        fields.push(("tables", Json::List(shown)));
         fields.push(("other_rows", others.into()));
         return output.line(Json::Object(fields));
     }
     output.line(pages.line())?;
     output.line("  page   slot       table   root page  layout      version  name")?;
     let mut listed = 0;
-    for row in tables.take(limit) {
+    for row in tables.by_ref().take(limit) {
         listed += 1;
         output.line(format_args!(
             "{:>6}  {:>5}  {:>10}  {:>10}  {:<9}  {:>8}  {}",
@@ -64,9 +67,14 @@ fn run(parsed: &Parsed, output: &mut Output) -> Result<(), Failure> {
             row.name()
         ))?;
     }
+    let all = listed + tables.count() as u64;
+    let part = match listed < all {
+        true => format!("{listed} of "),
+        false => String::new(),
+    };
     output.line(format_args!(
-        "{}; {} passed over",
-        show::count(listed, "table row", "table rows"),
+        "{part}{}; {} passed over",
+        show::count(all, "table row", "table rows"),
         show::count(others, "other visible row", "other visible rows")
     ))
 }

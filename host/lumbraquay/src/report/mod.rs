@@ -3,6 +3,8 @@
 mod picture;
 mod tables;
 
+use library::{ENDED_TORN, ENDED_UNUSED};
+
 use crate::advice;
 use crate::mended::Mended;
 use crate::plain::plain;
@@ -83,12 +85,15 @@ fn head(mended: &Mended, name: &str) -> String {
             if some == 1 { "is" } else { "are" }
         ),
     };
-    let tail = match mended.torn_bytes() {
-        0 => "nothing of it is torn".to_string(),
-        torn => format!(
-            "its last {torn} bytes, from offset {} on, are torn and left out",
-            answer.tail_offset
-        ),
+    let last = format!(
+        "its last {} bytes, from offset {} on, are",
+        mended.left_out_bytes(),
+        answer.tail_offset
+    );
+    let tail = match answer.ending {
+        ENDED_TORN => format!("{last} torn and left out"),
+        ENDED_UNUSED => format!("{last} zero, room that was set aside"),
+        _ => "nothing of it is torn".to_string(),
     };
     format!(
         "<header class=\"done\">\n<h1>Recovery of {name}</h1>\n<p>{outcome}</p>\n<p>The log reaches LSN {}, and {tail}.</p>\n</header>\n",

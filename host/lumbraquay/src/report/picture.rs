@@ -3,7 +3,7 @@
 use std::cmp::Reverse;
 use std::collections::BTreeMap;
 
-use library::{Record, Step, PAGE_BYTES};
+use library::{Record, Step, ENDED_EXACTLY, PAGE_BYTES};
 
 use crate::mended::Mended;
 use crate::show;
@@ -193,7 +193,8 @@ pub fn transactions(mended: &Mended) -> String {
 
 const LEGEND_OF_BARS: &str = "<p class=\"legend\"><span class=\"mark committed\"></span>committed \
     <span class=\"mark rolled\"></span>rolled back <span class=\"mark unended\"></span>never ended \
-    <span class=\"mark alone\"></span>changes without a transaction <span class=\"mark torn\"></span>torn</p>\n\
+    <span class=\"mark alone\"></span>changes without a transaction <span class=\"mark torn\"></span>torn \
+    <span class=\"mark unused\"></span>unused</p>\n\
     <p class=\"legend\">The log runs from left to right, by its bytes. Each stroke is a change, each dotted line a checkpoint.</p>\n";
 
 /// The transactions that are drawn, with their outcomes.
@@ -232,16 +233,17 @@ impl Scale {
     }
 }
 
-/// The torn tail, the checkpoints and the axis.
+/// The torn tail or the unused room, the checkpoints and the axis.
 fn backdrop(mended: &Mended, scale: &Scale, rows: usize, checkpoints: &[u64]) -> String {
     let bottom = rows * BAR + 8;
     let mut svg = String::new();
-    let torn = mended.answer.tail_offset;
-    if mended.torn_bytes() > 0 {
+    let place = mended.answer.tail_offset;
+    if mended.answer.ending != ENDED_EXACTLY {
+        let ending = show::ending(mended.answer.ending);
         svg += &format!(
-            "<rect class=\"torn\" x=\"{:.1}\" y=\"0\" width=\"{:.1}\" height=\"{bottom}\"><title>torn, from offset {torn} on</title></rect>\n",
-            scale.x(torn),
-            scale.x(mended.log.bytes.len() as u64) - scale.x(torn)
+            "<rect class=\"{ending}\" x=\"{:.1}\" y=\"0\" width=\"{:.1}\" height=\"{bottom}\"><title>{ending}, from offset {place} on</title></rect>\n",
+            scale.x(place),
+            scale.x(mended.log.bytes.len() as u64) - scale.x(place)
         );
     }
     for place in checkpoints {

@@ -6,11 +6,12 @@ use std::os::unix::fs::PermissionsExt;
 use crate::sandbox::Sandbox;
 
 /// Every use of a page file, which is called P, and of a log file, called L.
-const OF_PAGES: [&str; 10] = [
+const OF_PAGES: [&str; 11] = [
     "verify P",
     "rows P",
     "tables P",
     "table P 14",
+    "log outage.log --catalog P",
     "freemap P",
     "row P outage.log 1 0",
     "recover P outage.log",
@@ -110,7 +111,7 @@ fn empty_files() {
             .fails(&["cannot use empty: it is empty and holds no page"]);
     }
     let texts = [
-        "refused: 3 LOG_HEADER\n",
+        "refused: 3 LOG_HEADER of empty\n",
         "found:      0 bytes",
         "see that this file is the log",
     ];
@@ -129,14 +130,14 @@ fn files_over_the_limits() {
     let sandbox = Sandbox::with_outage();
     zeros(&sandbox, "pages", 4_097 * 16_384);
     let texts = [
-        "refused: 1 PAGE_AREA\n",
+        "refused: 1 PAGE_AREA of pages\n",
         "67125248 bytes, which are 4097 pages and 0 bytes",
         "more than 4096 pages are beyond",
     ];
     all_refuse(&sandbox, &OF_PAGES, "pages", &texts);
     zeros(&sandbox, "more", 4_096 * 16_384 + 1);
     let texts = [
-        "refused: 1 PAGE_AREA\n",
+        "refused: 1 PAGE_AREA of more\n",
         "67108865 bytes, which are 4096 pages and 1 bytes",
     ];
     all_refuse(&sandbox, &OF_PAGES[..1], "more", &texts);
@@ -151,7 +152,7 @@ fn files_over_the_limits() {
 
     zeros(&sandbox, "log", 16_777_217);
     let texts = [
-        "refused: 2 LOG_TOO_LONG\n",
+        "refused: 2 LOG_TOO_LONG of log\n",
         "found:      16777217 bytes",
         "logs of more than 16 MiB are beyond",
     ];
@@ -161,7 +162,7 @@ fn files_over_the_limits() {
         &sandbox,
         &OF_LOG[..1],
         "longest",
-        &["refused: 3 LOG_HEADER\n"],
+        &["refused: 3 LOG_HEADER of longest\n"],
     );
 
     // Of a file that no memory could hold, no more is read than tells that it is too long.
@@ -170,13 +171,13 @@ fn files_over_the_limits() {
         &sandbox,
         &OF_PAGES,
         "huge",
-        &["refused: 1 PAGE_AREA\n", "1099511627776 bytes"],
+        &["refused: 1 PAGE_AREA of huge\n", "1099511627776 bytes"],
     );
     all_refuse(
         &sandbox,
         &OF_LOG,
         "huge",
-        &["refused: 2 LOG_TOO_LONG\n", "1099511627776 bytes"],
+        &["refused: 2 LOG_TOO_LONG of huge\n", "1099511627776 bytes"],
     );
 }
 
@@ -188,7 +189,7 @@ fn files_given_for_one_another() {
         &OF_PAGES,
         "outage.log",
         &[
-            "refused: 1 PAGE_AREA",
+            "refused: 1 PAGE_AREA of outage.log\n",
             "1133 bytes, which are 0 pages and 1133 bytes",
         ],
     );
@@ -196,6 +197,9 @@ fn files_given_for_one_another() {
         &sandbox,
         &OF_LOG,
         "outage.pages",
-        &["refused: 3 LOG_HEADER", "which start with '4352414e4553'"],
+        &[
+            "refused: 3 LOG_HEADER of outage.pages\n",
+            "which start with '4352414e4553'",
+        ],
     );
 }

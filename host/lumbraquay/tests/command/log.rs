@@ -40,7 +40,7 @@ fn assert_same(told: &Value, entry: &EntryFields) {
 #[test]
 fn entries_are_the_second_programs() {
     let sandbox = Sandbox::new();
-    let (mut listed, mut ends) = (0, [0; 3]);
+    let (mut listed, mut ends) = (0, [0; 4]);
     for seed in 0..150 {
         let log = generate::case(seed).log;
         if log.len() > 300_000 || oracle::log_open(&log, false).number != 0 {
@@ -51,9 +51,10 @@ fn entries_are_the_second_programs() {
         let (status, kind) = match end {
             Step::End => (0, "exact end"),
             Step::Torn => (0, "torn tail"),
+            Step::Unused => (0, "unused room"),
             _ => (3, "damage"),
         };
-        ends[["exact end", "torn tail", "damage"]
+        ends[["exact end", "torn tail", "unused room", "damage"]
             .iter()
             .position(|it| *it == kind)
             .unwrap()] += 1;
@@ -92,6 +93,35 @@ fn as_text() {
     let mut reversed = lines(&backward.out);
     reversed[2..16].reverse();
     assert_eq!(lines(&forward.out), reversed);
+}
+
+/// Zero bytes behind the entries: torn up to three, unused room from four on, damage where a later byte is not zero.
+#[test]
+fn room_set_aside() {
+    let sandbox = Sandbox::with_outage();
+    let entries = sandbox.read("outage.log")[..1_072].to_vec();
+    for (zeros, end) in [
+        (3, "torn tail at 1072, 3 bytes"),
+        (4, "unused room at 1072, 4 bytes"),
+        (4_096, "unused room at 1072, 4096 bytes"),
+    ] {
+        let mut log = entries.clone();
+        log.resize(1_072 + zeros, 0);
+        sandbox.write("log", &log);
+        for words in ["log log", "log log --backward", "log log --stats"] {
+            sandbox.say(words).done().says(&[end]);
+        }
+    }
+    let told = sandbox.say("log log --json").done().json();
+    assert_eq!(told.text("end"), "unused room");
+
+    let mut log = sandbox.read("log");
+    log[5_000] = 1;
+    sandbox.write("log", &log);
+    sandbox.say("log log").refuses(&[
+        "refused: 4 ENTRY_DAMAGED at offset 1072",
+        "its length reads 0, but the byte at offset 5000 is not",
+    ]);
 }
 
 #[test]

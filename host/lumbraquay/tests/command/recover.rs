@@ -44,6 +44,38 @@ fn writes_a_new_file() {
     assert!(sandbox.read("outage.pages") == old && sandbox.read("outage.log") == log);
 }
 
+/// A host that sets room aside: the log ends where the zero bytes start, and they change nothing.
+#[test]
+fn takes_a_log_with_unused_room() {
+    let sandbox = Sandbox::with_outage();
+    let (expected, _) = by_oracle(&sandbox);
+    let mut log = sandbox.read("outage.log");
+    log.truncate(1_072);
+    log.resize(8_192, 0);
+    sandbox.write("roomy.log", &log);
+    sandbox
+        .say("recover outage.pages roomy.log")
+        .done()
+        .says(&["log:          last LSN 114, unused room of 7120 bytes at offset 1072\n"]);
+    assert!(sandbox.read("outage.pages.recovered") == expected);
+    let done = sandbox
+        .say("recover outage.pages roomy.log --dry-run --json")
+        .done()
+        .json();
+    assert_eq!(done.text("ending"), "unused");
+    assert_eq!(
+        (done.number("torn_bytes"), done.number("unused_bytes")),
+        (0, 7_120)
+    );
+    log.truncate(1_072);
+    sandbox.write("exact.log", &log);
+    let done = sandbox
+        .say("recover outage.pages exact.log --dry-run --json")
+        .done()
+        .json();
+    assert_eq!(done.text("ending"), "exact");
+}
+
 #[test]
 fn writes_where_it_is_told() {
     let sandbox = Sandbox::with_outage();
@@ -211,6 +243,7 @@ fn as_json() {
         ("last_lsn", answer.last_lsn),
         ("tail_offset", answer.tail_offset),
         ("torn_bytes", 61),
+        ("unused_bytes", 0),
         ("committed", answer.committed),
         ("rolled_back", answer.rolled_back),
         ("unended", answer.unended),
@@ -222,6 +255,7 @@ fn as_json() {
     ] {
         assert_eq!(done.number(name), number, "{name}");
     }
+    assert_eq!(done.text("ending"), "torn");
     assert_eq!(done.text("command"), "recover");
     assert_eq!(done.text("magic_from"), "read off page 0");
     assert_eq!(done.text("written_to"), "outage.pages.recovered");

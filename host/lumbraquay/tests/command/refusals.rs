@@ -3,7 +3,7 @@
 use generate::{live_tuple, log_header, plain_page, DataPage, Entry, Slots};
 use generate::{mutated_by, mutations, Case, Mutation, Rng};
 use generate::{BEGIN, CHECKPOINT, COMMIT, FREE};
-use library::refusal::{refusal, Place};
+use library::refusal::{refusal, Place, LOG_HEADER, LOG_TOO_LONG, PAGE_AREA};
 
 use crate::json::Value;
 use crate::sandbox::{Done, Sandbox};
@@ -43,7 +43,11 @@ fn assert_told(done: Done, number: u64, place: u64) {
     let known = refusal(number).expect("a refusal");
     let head = format!("lumbraquay: refused: {number} {}", known.name);
     let head = match known.place {
-        Place::Nothing => format!("{head}\n"),
+        Place::Nothing => match number {
+            PAGE_AREA => format!("{head} of pages\n"),
+            LOG_TOO_LONG | LOG_HEADER => format!("{head} of log\n"),
+            _ => format!("{head}\n"),
+        },
         Place::LogOffset => format!("{head} at offset {place} of log\n"),
         Place::PageIndex => format!(
             "{head} at page {place} of pages, offset {}\n",
@@ -229,10 +233,11 @@ fn what_is_found_is_told() {
         "leaves out the 125 bytes from there on, in which no whole entry follows",
     ]);
     ended[515..].fill(0);
+    ended[639] = 1;
     sandbox.write("outage.log", &ended);
     sandbox.say("log outage.log").refuses(&[
-        "found:      all 125 bytes from there on are 0\n",
-        "--log-until 515 takes only the log before that place, as if the power had failed there, and leaves out the 125 zero bytes\n",
+        "its length reads 0, but the byte at offset 639 is not, and no whole entry follows in the 125 bytes from there on",
+        "--log-until 515 takes only the log before that place, as if the power had failed there, and leaves out the 125 bytes from there on",
     ]);
     sandbox.write("text", b"this is no log, and long enough to hold a header");
     sandbox
@@ -619,11 +624,16 @@ fn swapped_files_are_recognised() {
     sandbox
         .say("verify long.log")
         .refuses(&["refused: 18 PAGE_CHECKSUM", "starts with WALN"]);
-    for words in ["log outage.pages", "recover outage.pages outage.pages"] {
-        sandbox.say(words).refuses(&[
-            "refused: 3 LOG_HEADER",
-            "by its length it may be a page file",
-        ]);
+    for (words, advice) in [
+        ("log outage.pages", "it may be a page file\n"),
+        (
+            "recover outage.pages outage.pages",
+            "it may be a page file: PAGES comes first, then LOG\n",
+        ),
+    ] {
+        sandbox
+            .say(words)
+            .refuses(&["refused: 3 LOG_HEADER of outage.pages\n", advice]);
     }
 }
 

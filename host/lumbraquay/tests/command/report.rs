@@ -30,6 +30,24 @@ fn read(sandbox: &Sandbox, name: &str) -> String {
 }
 
 #[test]
+fn tells_of_unused_room() {
+    let sandbox = Sandbox::with_outage();
+    let mut log = sandbox.read("outage.log");
+    log.truncate(1_072);
+    log.resize(2_000, 0);
+    sandbox.write("outage.log", &log);
+    sandbox.say("report outage.pages outage.log").done();
+    let html = read(&sandbox, "report.html");
+    assert_sound(&html);
+    for text in [
+        "its last 928 bytes, from offset 1072 on, are zero, room that was set aside",
+        "<title>unused, from offset 1072 on</title>",
+    ] {
+        assert!(html.contains(text), "no '{text}' in {html}");
+    }
+}
+
+#[test]
 fn tells_all_of_the_outage() {
     let sandbox = Sandbox::with_outage();
     let before = sandbox.contents();

@@ -63,7 +63,13 @@ fn tables_in_words() {
     sandbox
         .say("tables catalog.pages --limit 1")
         .done()
-        .says(&["portal.parts\n1 table row; 0 other visible rows passed over\n"]);
+        .says(&["portal.parts\n1 of 3 table rows; 1 other visible row passed over\n"]);
+    let told = sandbox.say("tables catalog.pages --limit 1 --json").done();
+    let told = told.json();
+    assert_eq!(
+        (told.list("tables").len(), told.number("other_rows")),
+        (1, 1)
+    );
     sandbox
         .say("tables outage.pages")
         .done()
@@ -92,18 +98,39 @@ fn table_in_words() {
         .fails(&["ID is missing: the table's id"]);
 }
 
-/// A name of bytes that are no text, and of letters that steer a terminal.
+/// A table's row in the newest form, root page 0, heap, version 1.
+fn row(table: u32, schema: &[u8], name: &[u8]) -> Vec<u8> {
+    let mut area = [0; library::TABLE_LIMIT_BYTES];
+    let written = library::table_write(table, 0, schema, name, 0, 1, &mut area);
+    area[..written.length as usize].to_vec()
+}
+
+/// A page of these rows, the first in slot 0.
+fn page_of(rows: impl IntoIterator<Item = Vec<u8>>) -> Vec<u8> {
+    let slots: Slots = (0..).zip(rows).collect();
+    DataPage::plain(7, 0, 0, slots).packed()
+}
+
+/// A name of bytes that are no text, and of letters that steer a terminal; one that reads as such bytes; none.
 #[test]
 fn names_are_plain_bytes() {
-    let mut area = [0; 100];
-    let written = library::table_write(3, 0, b"\xff\x00", "a\u{1b}\"".as_bytes(), 0, 1, &mut area);
-    let slots: Slots = [(0, live_tuple(1, &area[..written.length as usize]))].into();
+    let rows = [
+        row(3, b"\xff\x00", "a\u{1b}\"".as_bytes()),
+        row(4, b"0xff00", b"_0x1"),
+        row(5, b"", b"a.b"),
+    ];
     let sandbox = Sandbox::new();
-    sandbox.write("pages", &DataPage::plain(7, 0, 0, slots).packed());
-    sandbox
-        .say("table pages 3")
-        .done()
-        .says(&["table 3: 0xff00.0x611b22, heap"]);
+    sandbox.write("pages", &page_of(rows.map(|row| live_tuple(1, &row))));
+    for (id, name) in [
+        (3, "0xff00.0x611b22"),
+        (4, "\"0xff00\"._0x1"),
+        (5, "\"\".\"a.b\""),
+    ] {
+        sandbox
+            .say(&format!("table pages {id}"))
+            .done()
+            .says(&[&format!("table {id}: {name}, heap")]);
+    }
     let told = sandbox.say("table pages 3 --json").done().json();
     assert!(told.is_null("schema") && told.is_null("name_in_schema"));
     assert_eq!(
@@ -215,7 +242,7 @@ fn bad_pages_are_refused() {
         pages
     };
     for (pages, text) in [
-        (bundled()[1..].to_vec(), "refused: 1 PAGE_AREA"),
+        (bundled()[1..].to_vec(), "refused: 1 PAGE_AREA of bad\n"),
         (
             spoil(PAGE_BYTES, 1),
             "refused: 11 PAGE_MAGIC_OR_TYPE at page 1 of bad",
@@ -276,6 +303,73 @@ fn a_log_with_the_names_of_tables() {
     assert!(!plain.out.contains("table_name") && !plain.out.contains("catalog_file"));
 }
 
+/// A name is that of the first visible row that reads and has the id; an entry that changes nothing has no table.
+#[test]
+fn a_log_has_the_names_that_the_search_finds() {
+    let mut cancelled = live_tuple(1, &row(14, b"a", b"cancelled"));
+    cancelled[8] = 1;
+    let unreadable = row(14, b"a", b"unreadable");
+    let rows = [
+        live_tuple(1, &row(0, b"a", b"zero")),
+        cancelled,
+        live_tuple(1, &unreadable[..unreadable.len() - 1]),
+        live_tuple(1, &row(14, b"a", b"first")),
+        live_tuple(1, &row(14, b"a", b"second")),
+    ];
+    let sandbox = Sandbox::with_outage();
+    sandbox.write("pages", &page_of(rows));
+    sandbox
+        .say("table pages 14")
+        .done()
+        .says(&["table 14: a.first, heap"]);
+    let words = "log outage.log --catalog pages";
+    sandbox.say(words).done().says(&[
+        "  Begin              0\n",
+        "  Insert            14  a.first  ",
+    ]);
+    let told = sandbox.say(&format!("{words} --json")).done().json();
+    let mut named = 0;
+    for entry in told.list("entries") {
+        if entry.is_null("page") {
+            assert!(entry.is_null("table_name"));
+        } else {
+            assert_eq!(entry.text("table_name"), "a.first");
+            named += 1;
+        }
+    }
+    assert_eq!(named, 5);
+}
+
+/// What to do about a catalog that is refused speaks of its file, and of options that the command has.
+#[test]
+fn a_refused_catalog_is_told_apart_from_the_log() {
+    let sandbox = with_catalog();
+    let mut pages = bundled();
+    pages[PAGE_BYTES] ^= 1;
+    sandbox.write("bad", &pages);
+    let words = "log outage.log --catalog bad";
+    let refused = sandbox.say(words).refuses(&[
+        "refused: 11 PAGE_MAGIC_OR_TYPE at page 1 of bad",
+        "so try `verify --magic",
+    ]);
+    assert!(!refused.err.contains("give the right one to --magic"));
+    let told = sandbox.say(&format!("{words} --json")).ends(3).json();
+    assert_eq!(
+        (told.text("catalog_file"), told.text("log_file")),
+        ("bad", "outage.log")
+    );
+    for words in [
+        "log outage.log --catalog outage.log",
+        "log catalog.pages --catalog outage.log",
+    ] {
+        let refused = sandbox.say(words).refuses(&[
+            "refused: 1 PAGE_AREA of outage.log\n",
+            "it starts with WALN, as logs do: give --catalog the page file that holds the catalog",
+        ]);
+        assert_eq!(refused.out, "");
+    }
+}
+
 #[test]
 fn catalogs_that_cannot_be_read() {
     let sandbox = with_catalog();
@@ -291,6 +385,10 @@ fn catalogs_that_cannot_be_read() {
     ] {
         sandbox.say(words).fails(&[text]);
     }
+    let told = sandbox
+        .say("log outage.log --catalog missing --json")
+        .fails_as_json("cannot open missing");
+    assert_eq!(told.text("catalog_file"), "missing");
     let piped = sandbox.shell("\"$LQ\" log outage.log --catalog - < catalog.pages");
     piped.done().says(&["portal.orders"]);
 }

@@ -133,6 +133,8 @@ fn lengths_at_the_bounds() {
         log[32..36].copy_from_slice(&field);
         forward(&log, 32)
     };
+    assert_eq!(with_length(0, 4), Step::Unused);
+    assert_eq!(with_length(1, 4), Step::Damage);
     assert_eq!(with_length(42, 4), Step::Damage);
     assert_eq!(with_length(43, 4), Step::Torn);
     assert_eq!(with_length(43, 42), Step::Torn);
@@ -146,6 +148,67 @@ fn lengths_at_the_bounds() {
     assert_eq!(log.bytes.len(), 32 + 32_705);
     assert!(matches!(forward(&log.bytes, 32), Step::Entry(_)));
     assert!(backward(&log.bytes, 32 + 32_705).is_some());
+}
+
+#[test]
+fn room_set_aside() {
+    let (log, places) = sample();
+    let end = places[6];
+    let with = |cut: usize, zeros: usize| {
+        let mut file = log[..cut].to_vec();
+        file.resize(cut + zeros, 0);
+        file
+    };
+    for zeros in 1..=3 {
+        assert_eq!(forward(&with(log.len(), zeros), end), Step::Torn);
+    }
+    for zeros in [4, 5, 8, 43, 1_000] {
+        let file = with(log.len(), zeros);
+        assert_eq!(forward(&file, end), Step::Unused);
+        assert_eq!(log_open(&file, true).place, end);
+        // Backward from there the last entry is found.
+        assert_eq!(backward(&file, end).unwrap().offset, places[5]);
+        for at in log.len() + 4..file.len() {
+            let mut spoiled = file.clone();
+            spoiled[at] = 1;
+            assert_eq!(forward(&spoiled, end), Step::Damage);
+        }
+    }
+    // Inside the room too, up to its last four bytes.
+    let file = with(log.len(), 9);
+    assert_eq!(forward(&file, end + 5), Step::Unused);
+    assert_eq!(forward(&file, end + 6), Step::Torn);
+
+    // The last entry has 43 bytes, of which the last three are zero.
+    let last = with(log.len() - 3, 7);
+    assert_eq!(log_open(&last, true).place, end);
+    assert_eq!(forward(&last, end), Step::Unused);
+    assert_eq!(forward(&with(log.len() - 3, 2), places[5]), Step::Torn);
+    assert_eq!(forward(&with(log.len() - 4, 4), places[5]), Step::Damage);
+
+    // A length cut after its first byte.
+    let cut = places[5] as usize + 1;
+    assert_eq!(forward(&with(cut, 2), places[5]), Step::Torn);
+    assert_eq!(forward(&with(cut, 3), places[5]), Step::Torn);
+    assert_eq!(forward(&with(cut, 42), places[5]), Step::Damage);
+}
+
+/// A length whose low byte is 0, cut after that byte.
+#[test]
+fn a_length_of_256_cut_after_its_first_byte() {
+    let mut log = Log::new();
+    let place = log.insert(0, 0, 0, &tuple(256 - 53, 1));
+    assert_eq!(log.bytes.len() as u64 - place, 256);
+    for (zeros, expected) in [
+        (0, Step::Torn),
+        (2, Step::Torn),
+        (3, Step::Unused),
+        (300, Step::Unused),
+    ] {
+        let mut file = log.bytes[..place as usize + 1].to_vec();
+        file.resize(file.len() + zeros, 0);
+        assert_eq!(forward(&file, place), expected);
+    }
 }
 
 #[test]

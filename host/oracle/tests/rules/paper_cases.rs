@@ -24,6 +24,7 @@ fn forty_two_bytes_of_a_begin() {
     log.extend(&begin_bytes()[..42]);
     let expected = Answer {
         tail_offset: 32,
+        ending: 1,
         ..Answer::default()
     };
     assert_eq!(run(&mut [], &log), expected);
@@ -53,11 +54,38 @@ fn longest_length_past_the_end() {
     put32(&mut log, 32, 32_705);
     let expected = Answer {
         tail_offset: 32,
+        ending: 1,
         ..Answer::default()
     };
     assert_eq!(run(&mut [], &log), expected);
     put32(&mut log, 32, 32_706);
     assert_eq!(run(&mut [], &log), refused(4, 32));
+}
+
+/// Room set aside: the place where it starts is told, and how the log ends.
+#[test]
+fn zeros_behind_the_log() {
+    let ends = |tail: &[u8]| {
+        let mut log = Log::new().bytes;
+        log.extend(begin_bytes());
+        log.extend(tail);
+        let answer = run(&mut [], &log);
+        (
+            answer.number,
+            answer.place,
+            answer.tail_offset,
+            answer.ending,
+        )
+    };
+    assert_eq!(ends(&[]), (0, 0, 75, 0));
+    for zeros in 1..=3 {
+        assert_eq!(ends(&vec![0; zeros]), (0, 0, 75, 1));
+    }
+    for zeros in [4, 5, 43, 4_096] {
+        assert_eq!(ends(&vec![0; zeros]), (0, 0, 75, 2));
+    }
+    assert_eq!(ends(&[0, 0, 0, 0, 1]), (4, 75, 0, 0));
+    assert_eq!(ends(&[0, 0, 0, 1]), (4, 75, 0, 0));
 }
 
 #[test]

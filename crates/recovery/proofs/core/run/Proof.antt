@@ -25,16 +25,23 @@ mend-all-requires c κs =
     let z = e .if1 .left in
     (j .before .before .before .before .before .before .before .before .before .pre, (s .ordered, (d .0 .begin z, (d .0 .touched z, (d .1 .begin z, (d .1 .listed z, (s .touched, (s .fitting, (s .few, s .small, s .size)))))))))
 
+ending-at-requires : tie.Need-ending-at-requires
+ending-at-requires c κs =
+    let e = c .before .before .before .before .before .before .before .before .before in
+    let d = e .before .before .before .judge .ensures in
+    let z = e .if1 .left in
+    (d .0 .end z, sured e .undamaged)
+
 returns-2 : tie.Need-returns-2
 returns-2 c =
-    let m = c .before .before .before in
+    let m = c .before .before .before .before in
     let e = m .before .before .before .before .before .before .before in
     let d = e .before .before .before .judge .ensures in
     let z = e .if1 .left in
     let r = run-done (d .0) [] z in
-    (c .done-by .ensures ∙ rw (d .1 .counts z, m .mend-all .ensures .1) (r .0), m .mend-all .ensures .0 ∙ r .1)
+    (c .done-by .ensures ∙ rw (d .1 .counts z, m .mend-all .ensures .1, c .before .ending-at .ensures) (r .0), m .mend-all .ensures .0 ∙ r .1)
 
 pub run-spec : {M : Type 1} → statement M
 run-spec =
     tie.close
-    (tie.spec (λ c κs. search needs) (λ c κs. search needs) (λ c. search needs) returns mend-all-requires (λ c κs. search needs) (λ c. search needs) returns-2)
+    (tie.spec (λ c κs. search needs) (λ c κs. search needs) (λ c. search needs) returns mend-all-requires ending-at-requires (λ c κs. search needs) (λ c. search needs) returns-2)
