@@ -5,7 +5,9 @@ use library::{Answer, Record, LOG_HEAD_BYTES, PAGE_BYTES, RECORD_NUMBERS, SHORTE
 
 use crate::args::Parsed;
 use crate::changes::{changes, Change};
+use crate::doublewrite::Repaired;
 use crate::failure::Failure;
+use crate::files::Seen;
 use crate::input::{Log, Pages, Read};
 use crate::json::Json;
 use crate::memory;
@@ -21,11 +23,18 @@ pub struct Mended {
     pub records: Vec<Record>,
     /// The pages afterwards.
     pub new: Vec<u8>,
+    /// What was done to the pages before.
+    repaired: Option<Repaired>,
 }
 
 impl Mended {
     /// Recovers a copy of the pages, with the options that say how. The answer may be a refusal.
-    pub fn of(parsed: &Parsed, pages: Pages, log: Log) -> Result<Mended, Failure> {
+    pub fn of(
+        parsed: &Parsed,
+        pages: Pages,
+        log: Log,
+        repaired: Option<Repaired>,
+    ) -> Result<Mended, Failure> {
         let floor = parsed.chosen_number("--floor")?.unwrap_or(0);
         let most_records = parsed.chosen_number("--records")?;
         let mut new = memory::room(pages.bytes.len())?;
@@ -45,12 +54,23 @@ impl Mended {
             answer,
             records,
             new,
+            repaired,
         })
     }
 
     /// What was read, for the words of a refusal.
     pub fn read(&self) -> Read<'_> {
-        Read::both(&self.pages, &self.log, self.floor)
+        let read = Read::both(&self.pages, &self.log, self.floor);
+        match &self.repaired {
+            Some(repaired) => read.with(&repaired.file),
+            None => read,
+        }
+    }
+
+    /// The files that were read beside the pages.
+    pub fn others(&self) -> Vec<&Seen> {
+        let repaired = self.repaired.iter().map(|it| &it.file.seen);
+        [&self.log.seen].into_iter().chain(repaired).collect()
     }
 
     /// The page that a refusal speaks of.
@@ -76,6 +96,9 @@ impl Mended {
         let answer = &self.answer;
         output.line(self.pages.line())?;
         output.line(format_args!("{}, floor {}", self.log.line(), self.floor))?;
+        if let Some(repaired) = &self.repaired {
+            repaired.tell(output)?;
+        }
         let tail = match self.torn_bytes() {
             0 => "nothing torn".to_string(),
             torn => format!("torn tail of {torn} bytes at offset {}", answer.tail_offset),
@@ -119,6 +142,7 @@ impl Mended {
         let answer = &self.answer;
         let mut fields = self.pages.fields();
         fields.extend(self.log.fields());
+        fields.extend(self.repaired.as_ref().map_or(Vec::new(), Repaired::fields));
         fields.extend([
             ("floor", self.floor.into()),
             ("last_lsn", answer.last_lsn.into()),
