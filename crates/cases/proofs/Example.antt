@@ -84,7 +84,7 @@ encodable = (
   ),
 )
 
-all-encodable : AllEncodable all
+pub all-encodable : AllEncodable all
 all-encodable =
     let e = encodable in
     (e .0, (e .1 .0, (e .1 .1 .0, (e .1 .1 .1 .0, (e .1 .1 .1 .1 .0, (e .1 .1 .1 .1 .1 .0, (e .1 .1 .1 .1 .1 .1 .0, (e .1 .1 .1 .1 .1 .1 .1 .0, (bare 1 9 10 (lit< tt) (lit< tt) (lit< tt), tt)))))))))
@@ -93,7 +93,7 @@ all-encodable =
 abbrev at : ℕ → State
 at n = run (start before) (take n steps)
 
-honest : Honest (λ i. typeOf (pageAt i before) ≡ dataType) (start before) steps
+pub honest : Honest (λ i. typeOf (pageAt i before) ≡ dataType) (start before) steps
 unfolding effectOn isOn isChanging beforeOf afterOf numberAt numberOf bytesOf
 honest = (
   λ i k d. tt,
@@ -115,7 +115,7 @@ honest = (
   ),
 )
 
-pub example : History
+unfoldable pub example : History
 example = record { pages = before; steps = steps; log = log; honest = honest; inLog = entries-log all all-encodable; ends = ends-log all all-encodable }
 
 -- ---- the pages stand at their moments

@@ -5,6 +5,7 @@ use std::path::{Path, PathBuf};
 use library::{SummaryStep, Verdict, LOG_HEAD_BYTES, LOG_LIMIT_BYTES, PAGE_BYTES, PAGE_LIMIT};
 
 use crate::args::Parsed;
+use crate::doublewrite::Doublewrite;
 use crate::failure::Failure;
 use crate::files::{self, Seen, Whole};
 use crate::held::Held;
@@ -20,6 +21,8 @@ pub struct Pages {
     pub magic: u64,
     magic_given: bool,
     pub seen: Seen,
+    /// The bytes as they were read, where a repair has made others of them.
+    unrepaired: Option<Vec<u8>>,
 }
 
 impl Pages {
@@ -75,7 +78,18 @@ impl Pages {
             bytes,
             length,
             seen,
+            unrepaired: None,
         })
+    }
+
+    /// Goes on with the bytes that a repair made.
+    pub fn repair(&mut self, new: Vec<u8>) {
+        self.unrepaired = Some(std::mem::replace(&mut self.bytes, new));
+    }
+
+    /// The bytes that the file holds.
+    pub fn as_read(&self) -> &[u8] {
+        self.unrepaired.as_ref().unwrap_or(&self.bytes)
     }
 
     pub fn count(&self) -> usize {
@@ -257,6 +271,9 @@ pub struct Read<'a> {
     pub log: Option<&'a Log>,
     pub summary: Option<&'a Summary>,
     pub floor: u64,
+    pub doublewrite: Option<&'a Doublewrite>,
+    /// The pages that a double-write file was to have.
+    pub list: Option<&'a [u64]>,
     /// Whether every bad page is already told.
     pub all_listed: bool,
     /// Whether the pages are those of --catalog.
@@ -301,6 +318,20 @@ impl<'a> Read<'a> {
             ..Read::default()
         }
     }
+
+    pub fn with(self, doublewrite: &'a Doublewrite) -> Read<'a> {
+        Read {
+            doublewrite: Some(doublewrite),
+            ..self
+        }
+    }
+
+    pub fn listing(self, list: &'a [u64]) -> Read<'a> {
+        Read {
+            list: Some(list),
+            ..self
+        }
+    }
 }
 
 /// The fields that every JSON object starts with.
@@ -323,6 +354,7 @@ impl Read<'_> {
         };
         let mut fields = self.pages.map_or(Vec::new(), |pages| pages.fields_of(file));
         fields.extend(self.log.map_or(Vec::new(), Log::fields));
+        fields.extend(self.doublewrite.map_or(Vec::new(), Doublewrite::fields));
         fields.extend(self.summary.map_or(Vec::new(), Summary::fields));
         fields
     }

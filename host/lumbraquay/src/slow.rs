@@ -9,11 +9,12 @@ use crate::failure::note;
 const PATIENCE: Duration = Duration::from_secs(2);
 
 /// What a run does at a time.
-const WORKS: [&str; 4] = ["the work", "reading", "recovering", "writing"];
+const WORKS: [&str; 5] = ["the work", "reading", "repairing", "recovering", "writing"];
 
 #[derive(Clone, Copy)]
 pub enum Work {
     Reading = 1,
+    Repairing,
     Recovering,
     Writing,
 }

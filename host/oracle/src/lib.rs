@@ -4,6 +4,7 @@
 mod bytes;
 mod catalog;
 mod crc;
+mod doublewrite;
 mod examine;
 mod listing;
 mod log;
@@ -15,6 +16,9 @@ mod summary;
 
 pub use catalog::{table_find, table_read, table_read_older, table_write, Table};
 pub use crc::crc32c;
+pub use doublewrite::{
+    doublewrite_id, doublewrite_read, doublewrite_write, repair, Contents, Repair,
+};
 pub use listing::{
     free_map, list_cancelled, list_visible, next_visible, verify, verify_from, FreeMap, Listing,
     Verdict, Visible,

@@ -1,10 +1,12 @@
 //! The commands, one file each.
 
 mod demo;
+mod doublewrite;
 mod freemap;
 mod log;
 mod pages;
 mod recover;
+mod repair;
 mod replay;
 mod report;
 mod row;
@@ -26,6 +28,7 @@ use crate::output::Output;
 pub const ALL: &[Command] = &[
     demo::COMMAND,
     recover::COMMAND,
+    repair::COMMAND,
     verify::COMMAND,
     log::COMMAND,
     pages::COMMAND,
@@ -34,6 +37,7 @@ pub const ALL: &[Command] = &[
     tables::COMMAND,
     table::COMMAND,
     freemap::COMMAND,
+    doublewrite::COMMAND,
     summary::WRITE,
     summary::SHOW,
     summary::DIFF,
