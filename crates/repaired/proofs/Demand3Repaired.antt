@@ -6,7 +6,7 @@ use mathlib.Core.Bool.{false}
 use Prim.Native.Nat.{ℕ, _*_, _/_, _≤_, _<_}
 use native.Mathlib.Omega.{arith}
 use mathlib.Core.List.{List}
-use lib.ListN.{length, take}
+use lib.ListN.{length}
 use Rattle.endian.specs.Numbers.{Bytes}
 use Rattle.wal.specs.Walk.{entries}
 use Rattle.page.specs.Layout.{pageBytes, dataType, pagesIn, pageAt, typeOf, slotAt}
@@ -22,7 +22,7 @@ use Rattle.rules.specs.declared.Answer.{Answer}
 use Rattle.rules.specs.declared.Record.{Record}
 use Rattle.rules.proofs.Again.{zero-accepted}
 use Rattle.history.specs.History.{ledger}
-use Rattle.history.specs.Demand3.{History, Stands, HasFelt, Mixed}
+use Rattle.history.specs.Demand3.{History, file, Stands, HasFelt, Mixed}
 use Rattle.history.proofs.Demand3.{demand3}
 use Rattle.repaired.specs.Demand3Repaired.{StandsAt, StandsRepaired, MixedRepaired, Demand3Repaired}
 use Rattle.repaired.proofs.After.{repaired-bytes, length-after}
@@ -41,14 +41,15 @@ stands-repaired h moment magic P f s =
 
 -- ---- the second half
 
-module _ (h : History) (magic floor₁ floor : ℕ) (P f : List ℕ) (c₁ c₂ : ℕ) (T₁ T₂ : List Record) (bP : Bytes P) (bf : Bytes f) (bL : Bytes (h .log)) (le : c₁ ≤ c₂) (t₁ : length T₁ ≡ length T₂)
-    (whole : length P ≡ pagesIn P * pageBytes) (ok : recoverOf (lent magic floor (repaired magic f P) (take c₂ (h .log))) T₂ .answer .number ≡ 0) where
+module _ (h : History) (magic floor₁ floor : ℕ) (P f : List ℕ) (c₁ z₁ c₂ z₂ : ℕ) (T₁ T₂ : List Record) (bP : Bytes P) (bf : Bytes f) (bL : Bytes (h .log))
+    (le : c₁ ≤ c₂) (long₂ : length (file h c₁ z₁) ≤ length (file h c₂ z₂)) (t₁ : length T₁ ≡ length T₂) (whole : length P ≡ pagesIn P * pageBytes)
+    (ok : recoverOf (lent magic floor (repaired magic f P) (file h c₂ z₂)) T₂ .answer .number ≡ 0) where
   abbrev R : List ℕ
   R = repaired magic f P
 
   -- what the first run left of them
   abbrev S : List ℕ
-  S = recoverOf (lent magic floor₁ R (take c₁ (h .log))) T₁ .pages
+  S = recoverOf (lent magic floor₁ R (file h c₁ z₁)) T₁ .pages
 
   bytes : Bytes R
   bytes = repaired-bytes magic f P bf bP (slotCount f) (pagesIn P) 0
@@ -57,14 +58,14 @@ module _ (h : History) (magic floor₁ floor : ℕ) (P f : List ℕ) (c₁ c₂ 
   count = count-repaired magic f P
 
   long : length S ≡ length R
-  long = length-after magic floor₁ R (take c₁ (h .log)) T₁ (length-repaired magic f P ∙ sym (ap (λ (n : ℕ). n * pageBytes) count))
+  long = length-after magic floor₁ R (file h c₁ z₁) T₁ (length-repaired magic f P ∙ sym (ap (λ (n : ℕ). n * pageBytes) count))
 
   -- the second run accepts them too: so they are not torn
   untorn : (i : ℕ) → i < pagesIn P → isTorn (pageAt i S) ≡ false
   untorn i l =
       let m : Mixed R S S = record { size = long; each = λ j b. inr refl } in
-      let e = demand3 h .repeats magic floor₁ floor R c₁ c₂ T₁ T₂ T₂ bytes bL le t₁ refl ok S m .0 in
-      let a = zero-accepted magic floor S (take c₂ (h .log)) T₂ (ap (λ (x : Answer). x .number) e ∙ ok) in
+      let e = demand3 h .repeats magic floor₁ floor R c₁ z₁ c₂ z₂ T₁ T₂ T₂ bytes bL le long₂ t₁ refl ok S m .0 in
+      let a = zero-accepted magic floor S (file h c₂ z₂) T₂ (ap (λ (x : Answer). x .number) e ∙ ok) in
       let n : pagesIn S ≡ pagesIn P = ap (λ (m : ℕ). m / pageBytes) long ∙ count in
       let b : i < pagesIn S = omega arith in
       good-whole magic i (pageAt i S) (sound-good magic i (pageAt i S) (page-length S i b) (a .sane i b .sound))
@@ -90,39 +91,40 @@ module _ (h : History) (magic floor₁ floor : ℕ) (P f : List ℕ) (c₁ c₂ 
           inr (w ∙ ap (repairedPage magic i (copyOf f i)) e ∙ page-kept magic i (copyOf f i) (pageAt i S) (whole-stays magic i (copyOf f i) (pageAt i S) (untorn i l)))
 
   pub repaired-repeats : (T₃ : List Record) → length T₃ ≡ length T₂ → (Q : List ℕ) → MixedRepaired P R S Q
-      → (recoverOf (lent magic floor (repaired magic f Q) (take c₂ (h .log))) T₃ .answer ≡ recoverOf (lent magic floor R (take c₂ (h .log))) T₂ .answer)
-      × (recoverOf (lent magic floor (repaired magic f Q) (take c₂ (h .log))) T₃ .pages ≡ recoverOf (lent magic floor R (take c₂ (h .log))) T₂ .pages)
-  repaired-repeats T₃ t₃ Q m = demand3 h .repeats magic floor₁ floor R c₁ c₂ T₁ T₂ T₃ bytes bL le t₁ t₃ ok (repaired magic f Q) (again Q m)
+      → (recoverOf (lent magic floor (repaired magic f Q) (file h c₂ z₂)) T₃ .answer ≡ recoverOf (lent magic floor R (file h c₂ z₂)) T₂ .answer)
+      × (recoverOf (lent magic floor (repaired magic f Q) (file h c₂ z₂)) T₃ .pages ≡ recoverOf (lent magic floor R (file h c₂ z₂)) T₂ .pages)
+  repaired-repeats T₃ t₃ Q m = demand3 h .repeats magic floor₁ floor R c₁ z₁ c₂ z₂ T₁ T₂ T₃ bytes bL le long₂ t₁ t₃ ok (repaired magic f Q) (again Q m)
 
 -- ---- the theorem
 
 pub demand3-repaired : (h : History) → Demand3Repaired h
 demand3-repaired h =
     record {
-      exact = λ magic floor moment P f c table v s felt ok i k l d.
+      exact = λ magic floor moment P f c z table v s felt ok i k l d.
           let e : pagesAfter magic P f ≡ repaired magic f P = after-repair P f v magic in
-          exact magic floor moment P f c table s (pagesAfter magic P f) e felt ok i k l d;
-      repeats = λ magic floor₁ floor P f c₁ c₂ T₁ T₂ T₃ bP bf bL le t₁ t₃ v ok Q m.
+          exact magic floor moment P f c z table s (pagesAfter magic P f) e felt ok i k l d;
+      repeats = λ magic floor₁ floor P f c₁ z₁ c₂ z₂ T₁ T₂ T₃ bP bf bL le long₂ t₁ t₃ v ok Q m.
           let w : repairVerdict Q f .number ≡ 0 = repair-again P f v Q (m .size) in
-          let r = repeats magic floor₁ floor P f c₁ c₂ T₁ T₂ T₃ bP bf bL le t₁ t₃ (repair-whole P f v) (pagesAfter magic P f) (after-repair P f v magic) ok Q m (pagesAfter magic Q f) (after-repair Q f w magic) in
+          let r = repeats magic floor₁ floor P f c₁ z₁ c₂ z₂ T₁ T₂ T₃ bP bf bL le long₂ t₁ t₃ (repair-whole P f v) (pagesAfter magic P f) (after-repair P f v magic) ok Q m (pagesAfter magic Q f) (after-repair Q f w magic) in
           (w, r .0, r .1);
     }
   where
-    exact : (magic floor : ℕ) (moment : ℕ → ℕ) (P f : List ℕ) (c : ℕ) (table : List Record) → StandsRepaired h moment magic P f
-        → (R : List ℕ) → R ≡ repaired magic f P → HasFelt h moment R c
-        → recoverOf (lent magic floor R (take c (h .log))) table .answer .number ≡ 0
+    exact : (magic floor : ℕ) (moment : ℕ → ℕ) (P f : List ℕ) (c z : ℕ) (table : List Record) → StandsRepaired h moment magic P f
+        → (R : List ℕ) → R ≡ repaired magic f P → HasFelt h moment R (file h c z)
+        → recoverOf (lent magic floor R (file h c z)) table .answer .number ≡ 0
         → (i k : ℕ) → i < pagesIn P → typeOf (pageAt i R) ≡ dataType
-        → slotAt (pageAt i (recoverOf (lent magic floor R (take c (h .log))) table .pages)) k ≡ ledger (h .pages) (entries (take c (h .log))) i k
-    exact magic floor moment P f c table s R e felt ok i k l d =
+        → slotAt (pageAt i (recoverOf (lent magic floor R (file h c z)) table .pages)) k ≡ ledger (h .pages) (entries (file h c z)) i k
+    exact magic floor moment P f c z table s R e felt ok i k l d =
         let st : Stands h moment R = rw e (stands-repaired h moment magic P f s) in
-        demand3 h .exact magic floor moment R c table st felt ok i k (omega (arith, ap pagesIn e, count-repaired magic f P)) d
+        demand3 h .exact magic floor moment R c z table st felt ok i k (omega (arith, ap pagesIn e, count-repaired magic f P)) d
 
-    repeats : (magic floor₁ floor : ℕ) (P f : List ℕ) (c₁ c₂ : ℕ) (T₁ T₂ T₃ : List Record) → Bytes P → Bytes f → Bytes (h .log) → c₁ ≤ c₂ → length T₁ ≡ length T₂ → length T₃ ≡ length T₂
+    repeats : (magic floor₁ floor : ℕ) (P f : List ℕ) (c₁ z₁ c₂ z₂ : ℕ) (T₁ T₂ T₃ : List Record) → Bytes P → Bytes f → Bytes (h .log)
+        → c₁ ≤ c₂ → length (file h c₁ z₁) ≤ length (file h c₂ z₂) → length T₁ ≡ length T₂ → length T₃ ≡ length T₂
         → length P ≡ pagesIn P * pageBytes → (R : List ℕ) → R ≡ repaired magic f P
-        → recoverOf (lent magic floor R (take c₂ (h .log))) T₂ .answer .number ≡ 0
-        → (Q : List ℕ) → MixedRepaired P R (recoverOf (lent magic floor₁ R (take c₁ (h .log))) T₁ .pages) Q
+        → recoverOf (lent magic floor R (file h c₂ z₂)) T₂ .answer .number ≡ 0
+        → (Q : List ℕ) → MixedRepaired P R (recoverOf (lent magic floor₁ R (file h c₁ z₁)) T₁ .pages) Q
         → (W : List ℕ) → W ≡ repaired magic f Q
-        → (recoverOf (lent magic floor W (take c₂ (h .log))) T₃ .answer ≡ recoverOf (lent magic floor R (take c₂ (h .log))) T₂ .answer)
-        × (recoverOf (lent magic floor W (take c₂ (h .log))) T₃ .pages ≡ recoverOf (lent magic floor R (take c₂ (h .log))) T₂ .pages)
-    repeats magic floor₁ floor P f c₁ c₂ T₁ T₂ T₃ bP bf bL le t₁ t₃ whole R e ok Q m W eW =
-        rw (eW, e) (repaired-repeats h magic floor₁ floor P f c₁ c₂ T₁ T₂ bP bf bL le t₁ whole (rw e at ok) T₃ t₃ Q (rw e at m))
+        → (recoverOf (lent magic floor W (file h c₂ z₂)) T₃ .answer ≡ recoverOf (lent magic floor R (file h c₂ z₂)) T₂ .answer)
+        × (recoverOf (lent magic floor W (file h c₂ z₂)) T₃ .pages ≡ recoverOf (lent magic floor R (file h c₂ z₂)) T₂ .pages)
+    repeats magic floor₁ floor P f c₁ z₁ c₂ z₂ T₁ T₂ T₃ bP bf bL le long₂ t₁ t₃ whole R e ok Q m W eW =
+        rw (eW, e) (repaired-repeats h magic floor₁ floor P f c₁ z₁ c₂ z₂ T₁ T₂ bP bf bL le long₂ t₁ whole (rw e at ok) T₃ t₃ Q (rw e at m))

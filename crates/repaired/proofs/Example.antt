@@ -1,13 +1,13 @@
--- The example meets every hypothesis of both halves: the file is accepted, a copy is taken and another page kept, both as they stood, the cut has what they felt, and recovery accepts.
+-- The example meets every hypothesis of both halves: the double-write file is accepted, a copy is taken and another page kept, both as they stood, each file of the log has what they felt, and recovery accepts.
 -- Assumes nothing.
 use mathlib.Core.Path.{_≡_, refl, sym, ap, _∙_}
 use mathlib.Core.Logic.{inl, inr}
 use mathlib.Core.Bool.{Bool, true, false}
-use Prim.Native.Nat.{ℕ, zero, suc, _*_, _-_, _^_, _<_}
+use Prim.Native.Nat.{ℕ, zero, suc, _+_, _*_, _-_, _^_, _≤_, _<_}
 use native.Mathlib.Omega.{arith}
 use mathlib.Core.List.{List, [], _∷_}
-use lib.ListN.{length, take, drop, replicate, length-append}
-use lib.Dec.{eqb, lit<}
+use lib.ListN.{length, drop, replicate, length-append}
+use lib.Dec.{eqb, lit<, lit≤}
 use lib.Seq.{paste, length-paste, drop-paste, drop-drop, take-all}
 use borrow.Author.Tests.{ne-eqb}
 use Rattle.endian.specs.Pick.{pick}
@@ -31,17 +31,17 @@ use Rattle.doublewrite.proofs.Laws.{pagewise, length-repaired, written-copy, af
 use Rattle.rules.specs.Lent.{lent}
 use Rattle.rules.specs.Recover.{recoverOf}
 use Rattle.history.specs.Demand3.{HasFelt}
-use Rattle.wal.specs.Entry.{Entry, encoded, encodedAll, unsealed, header}
+use Rattle.wal.specs.Entry.{Entry, encoded, encodedAll, unsealed, header, sizesOf}
 use Rattle.wal.specs.Walk.{entries}
 use Rattle.history.specs.History.{ledger}
 use Rattle.cases.specs.Build.{magic, page, headOf, entry, key, inserts, updates, tuple}
 use Rattle.cases.specs.Starred.{a, c, noRecord}
-use Rattle.cases.specs.Example.{before, log, cut, moment, stood}
+use Rattle.cases.specs.Example.{before, whole, log, roomy, completed, moment, stood}
 use Rattle.cases.proofs.Parts.{tuple-bytes}
 use Rattle.cases.proofs.Area.{pages-in, area-whole, page-at, good-of, type-of}
-use Rattle.cases.proofs.Example.{example, stood-ok, stands, felt, ok}
+use Rattle.cases.proofs.Example.{example, stood-ok, stands, felt-completed, ok-completed}
 use Rattle.repaired.specs.Demand3Repaired.{StandsAt, StandsRepaired}
-use Rattle.repaired.specs.Example.{other, tear, tornPages, both, file}
+use Rattle.repaired.specs.Example.{other, tear, tornPages, both, copies}
 use Rattle.repaired.proofs.Demand3Repaired.{demand3-repaired}
 
 -- ---- a page with another checksum is torn
@@ -110,43 +110,43 @@ lent-1 : pageAt 1 tornPages ≡ tear (pageAt 1 stood)
 unfolding tornPages
 lent-1 = page-later 0 (pageAt 0 stood) (tear (pageAt 1 stood)) size-0 ∙ take-all pageBytes (tear (pageAt 1 stood)) (omega (arith, length-tear (pageAt 1 stood) size-1))
 
--- ---- the file
+-- ---- the double-write file
 
 rising : rises 0 (pagesIn stood) both ≡ true
 unfolding rises
 rising = rw two
 
 -- the repair is accepted
-pub repairs : repairVerdict tornPages file .number ≡ 0
+pub repairs : repairVerdict tornPages copies .number ≡ 0
 unfolding repairVerdict
 repairs =
     let s : sizeWrong tornPages ≡ false = size-right tornPages (omega (arith, lent-long)) (omega (arith, lent-two)) in
     rw (s, lent-two, ← two, written-read stood both (omega (arith, two)) rising stood-bytes)
 
-copy-1 : copyOf file 1 ≡ pageAt 1 stood
+copy-1 : copyOf copies 1 ≡ pageAt 1 stood
 copy-1 = written-copy stood both (omega (arith, two)) rising 1 (lit< tt)
 
 -- page 0 is kept, and page 1 taken from its copy
-kept : isTaken magic 0 (copyOf file 0) (pageAt 0 tornPages) ≡ false
-kept = whole-stays magic 0 (copyOf file 0) (pageAt 0 tornPages) (ap isTorn lent-0 ∙ good-whole magic 0 (pageAt 0 stood) good-0)
+kept : isTaken magic 0 (copyOf copies 0) (pageAt 0 tornPages) ≡ false
+kept = whole-stays magic 0 (copyOf copies 0) (pageAt 0 tornPages) (ap isTorn lent-0 ∙ good-whole magic 0 (pageAt 0 stood) good-0)
 
-taken : isTaken magic 1 (copyOf file 1) (pageAt 1 tornPages) ≡ true
+taken : isTaken magic 1 (copyOf copies 1) (pageAt 1 tornPages) ≡ true
 taken =
-    good-taken magic 1 (copyOf file 1) (pageAt 1 tornPages) (ap isTorn lent-1 ∙ tear-torn (pageAt 1 stood) size-1)
-    (copy-good magic 1 (copyOf file 1) (rw copy-1 good-1))
+    good-taken magic 1 (copyOf copies 1) (pageAt 1 tornPages) (ap isTorn lent-1 ∙ tear-torn (pageAt 1 stood) size-1)
+    (copy-good magic 1 (copyOf copies 1) (rw copy-1 good-1))
 
 -- so the pages are as they stood
-mended-stood : repaired magic file tornPages ≡ stood
+mended-stood : repaired magic copies tornPages ≡ stood
 mended-stood =
-    same-pages 2 (repaired magic file tornPages) stood (length-repaired magic file tornPages ∙ ap (λ (n : ℕ). n * pageBytes) lent-two) (area-whole (page 7 (c ∷ []) ∷ page 5 (a ∷ []) ∷ []) stood-ok) each
+    same-pages 2 (repaired magic copies tornPages) stood (length-repaired magic copies tornPages ∙ ap (λ (n : ℕ). n * pageBytes) lent-two) (area-whole (page 7 (c ∷ []) ∷ page 5 (a ∷ []) ∷ []) stood-ok) each
   where
-    each : (i : ℕ) → i < 2 → pageAt i (repaired magic file tornPages) ≡ pageAt i stood
-    each zero l = pagewise magic file tornPages 0 (omega (arith, lent-two)) ∙ page-kept magic 0 (copyOf file 0) (pageAt 0 tornPages) kept ∙ lent-0
-    each (suc zero) l = pagewise magic file tornPages 1 (omega (arith, lent-two)) ∙ page-restored magic 1 (copyOf file 1) (pageAt 1 tornPages) taken ∙ copy-1
+    each : (i : ℕ) → i < 2 → pageAt i (repaired magic copies tornPages) ≡ pageAt i stood
+    each zero l = pagewise magic copies tornPages 0 (omega (arith, lent-two)) ∙ page-kept magic 0 (copyOf copies 0) (pageAt 0 tornPages) kept ∙ lent-0
+    each (suc zero) l = pagewise magic copies tornPages 1 (omega (arith, lent-two)) ∙ page-restored magic 1 (copyOf copies 1) (pageAt 1 tornPages) taken ∙ copy-1
     each (suc (suc i)) l = absurd (omega arith)
 
-after : pagesAfter magic tornPages file ≡ stood
-after = after-repair tornPages file repairs magic ∙ mended-stood
+after : pagesAfter magic tornPages copies ≡ stood
+after = after-repair tornPages copies repairs magic ∙ mended-stood
 
 -- ---- the hypotheses
 
@@ -155,34 +155,34 @@ stands-at i l =
     let b : i < pagesIn stood = omega (arith, two) in
     record { type = λ d. stands .type i b d; slots = λ d k. stands .slots i k b d }
 
-pub stands-repaired : StandsRepaired example moment magic tornPages file
+pub stands-repaired : StandsRepaired example moment magic tornPages copies
 stands-repaired = record { copy = λ i l. copy i (omega (arith, lent-two)); own = λ i l. own i (omega (arith, lent-two)) }
   where
-    copy : (i : ℕ) → i < 2 → isTaken magic i (copyOf file i) (pageAt i tornPages) ≡ true → StandsAt example (moment i) i (copyOf file i)
+    copy : (i : ℕ) → i < 2 → isTaken magic i (copyOf copies i) (pageAt i tornPages) ≡ true → StandsAt example (moment i) i (copyOf copies i)
     copy zero l t = absurd (omega (arith, ap {B = ℕ} (λ (b : Bool). pick b 1 0) (sym kept ∙ t)))
     copy (suc zero) l t = rw copy-1 (stands-at 1 l)
     copy (suc (suc i)) l t = absurd (omega arith)
 
-    own : (i : ℕ) → i < 2 → isTaken magic i (copyOf file i) (pageAt i tornPages) ≡ false → StandsAt example (moment i) i (pageAt i tornPages)
+    own : (i : ℕ) → i < 2 → isTaken magic i (copyOf copies i) (pageAt i tornPages) ≡ false → StandsAt example (moment i) i (pageAt i tornPages)
     own zero l t = rw lent-0 (stands-at 0 l)
     own (suc zero) l t = absurd (omega (arith, ap {B = ℕ} (λ (b : Bool). pick b 1 0) (sym t ∙ taken)))
     own (suc (suc i)) l t = absurd (omega arith)
 
-pub felt-repaired : HasFelt example moment (pagesAfter magic tornPages file) cut
-felt-repaired = rw after felt
+pub felt-repaired : HasFelt example moment (pagesAfter magic tornPages copies) completed
+felt-repaired = rw after felt-completed
 
-pub ok-repaired : recoverOf (lent magic 7 (pagesAfter magic tornPages file) (take cut log)) (replicate 8 noRecord) .answer .number ≡ 0
-ok-repaired = rw after ok
+pub ok-repaired : recoverOf (lent magic 7 (pagesAfter magic tornPages copies) completed) (replicate 8 noRecord) .answer .number ≡ 0
+ok-repaired = rw after ok-completed
 
--- pages and file are bytes, as the second half asks
+-- pages and double-write file are bytes, as the second half asks
 pub pages-bytes : Bytes tornPages
 unfolding tornPages tear
 pages-bytes =
     let b : Bytes (pageAt 1 stood) = bytes-take pageBytes (bytes-drop (1 * pageBytes) stood-bytes) in
     bytes-append (bytes-take pageBytes (bytes-drop (0 * pageBytes) stood-bytes)) (bytes-append (bytes-append (bytes-take 12 b) (bytes-take 4 (bytes-of 4 (other (crc32c (bodyOf (pageAt 1 stood))))))) (bytes-drop 16 b))
 
-copies-bytes : Bytes file
-copies-bytes = file-bytes stood both (λ k h. rise-each 0 (pagesIn stood) both rising k h .1) (lit< tt) stood-bytes
+doublewrite-bytes : Bytes copies
+doublewrite-bytes = file-bytes stood both (λ k h. rise-each 0 (pagesIn stood) both rising k h .1) (lit< tt) stood-bytes
 
 -- the log is bytes too
 entry-bytes : (e : Entry) → Bytes (e .key) → Bytes (e .old) → Bytes (e .new) → Bytes (encoded e)
@@ -218,15 +218,22 @@ log-bytes =
 -- ---- the theorem, of the example
 
 -- slot 0 of page 1, which is torn: what the ledger says
-pub exact-here : slotAt (pageAt 1 (recoverOf (lent magic 7 (pagesAfter magic tornPages file) (take cut log)) (replicate 8 noRecord) .pages)) 0 ≡ ledger before (entries (take cut log)) 1 0
+pub exact-here : slotAt (pageAt 1 (recoverOf (lent magic 7 (pagesAfter magic tornPages copies) completed) (replicate 8 noRecord) .pages)) 0 ≡ ledger before (entries completed) 1 0
 unfolding example
 exact-here =
-    demand3-repaired example .exact magic 7 moment tornPages file cut (replicate 8 noRecord) repairs stands-repaired felt-repaired ok-repaired 1 0 (omega (arith, lent-two))
+    demand3-repaired example .exact magic 7 moment tornPages copies (32 + sizesOf whole + 40) 7 (replicate 8 noRecord) repairs stands-repaired felt-repaired ok-repaired 1 0 (omega (arith, lent-two))
     (ap (λ (s : List ℕ). typeOf (pageAt 1 s)) after ∙ ap typeOf (page-at (page 7 (c ∷ []) ∷ page 5 (a ∷ []) ∷ []) stood-ok 1 (lit< tt)) ∙ type-of 1 _ (stood-ok .1 .0))
 
--- stopped behind the repair, and begun again: the same bytes
-pub repeats-here : recoverOf (lent magic 7 (pagesAfter magic stood file) (take cut log)) (replicate 8 noRecord) .pages ≡ recoverOf (lent magic 7 (pagesAfter magic tornPages file) (take cut log)) (replicate 8 noRecord) .pages
+-- the second file is the longer one
+longer : length roomy ≤ length completed
+unfolding encodedAll encoded unsealed header bytesOf
+longer = lit≤ tt
+
+-- stopped behind the repair, or in a recovery from the first file, which had not changed a page yet, and begun again from the second: the same bytes
+pub repeats-here : recoverOf (lent magic 7 (pagesAfter magic stood copies) completed) (replicate 8 noRecord) .pages
+    ≡ recoverOf (lent magic 7 (pagesAfter magic tornPages copies) completed) (replicate 8 noRecord) .pages
 unfolding example
 repeats-here =
-    demand3-repaired example .repeats magic 7 7 tornPages file cut cut (replicate 8 noRecord) (replicate 8 noRecord) (replicate 8 noRecord) pages-bytes copies-bytes log-bytes (omega arith) refl refl repairs ok-repaired stood
+    demand3-repaired example .repeats magic 7 7 tornPages copies (32 + sizesOf whole) 16 (32 + sizesOf whole + 40) 7 (replicate 8 noRecord) (replicate 8 noRecord) (replicate 8 noRecord)
+    pages-bytes doublewrite-bytes log-bytes (omega arith) longer refl refl repairs ok-repaired stood
     (record { size = area-whole (page 7 (c ∷ []) ∷ page 5 (a ∷ []) ∷ []) stood-ok ∙ sym lent-long; each = λ i l. inr (inl (ap (pageAt i) (sym after))) }) .2

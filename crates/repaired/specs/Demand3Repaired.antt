@@ -13,7 +13,7 @@ use Rattle.rules.specs.Lent.{lent}
 use Rattle.rules.specs.Recover.{recoverOf}
 use Rattle.rules.specs.declared.Record.{Record}
 use Rattle.history.specs.History.{run, start, ledger}
-use Rattle.history.specs.Demand3.{History, HasFelt}
+use Rattle.history.specs.Demand3.{History, file, HasFelt}
 
 -- The page p as page i stood when m steps had been made; asked is what `Stands` of the history asks of each page.
 pub record StandsAt (h : History) (m i : ℕ) (p : List ℕ) : Type 0 where
@@ -31,18 +31,19 @@ pub record MixedRepaired (lent repaired after Q : List ℕ) : Type 0 where
   pub each : (i : ℕ) → i < pagesIn lent → (pageAt i Q ≡ pageAt i lent) ⊎ ((pageAt i Q ≡ pageAt i repaired) ⊎ (pageAt i Q ≡ pageAt i after))
 
 pub record Demand3Repaired (h : History) : Type 0 where
-  -- Where the repair and the recovery after it are accepted, each slot of each page of type 1 holds what the ledger of the cut says.
-  pub exact : (magic floor : ℕ) (moment : ℕ → ℕ) (P f : List ℕ) (c : ℕ) (table : List Record) → repairVerdict P f .number ≡ 0
-      → StandsRepaired h moment magic P f → HasFelt h moment (pagesAfter magic P f) c
-      → recoverOf (lent magic floor (pagesAfter magic P f) (take c (h .log))) table .answer .number ≡ 0
+  -- Where the repair and the recovery after it are accepted, each slot of each page of type 1 holds what the ledger says, fed the whole entries found in the log's file.
+  pub exact : (magic floor : ℕ) (moment : ℕ → ℕ) (P f : List ℕ) (c z : ℕ) (table : List Record) → repairVerdict P f .number ≡ 0
+      → StandsRepaired h moment magic P f → HasFelt h moment (pagesAfter magic P f) (file h c z)
+      → recoverOf (lent magic floor (pagesAfter magic P f) (file h c z)) table .answer .number ≡ 0
       → (i k : ℕ) → i < pagesIn P → typeOf (pageAt i (pagesAfter magic P f)) ≡ dataType
-      → slotAt (pageAt i (recoverOf (lent magic floor (pagesAfter magic P f) (take c (h .log))) table .pages)) k ≡ ledger (h .pages) (entries (take c (h .log))) i k
-  -- Stopped anywhere in the repair, or in a recovery from a cut that is no longer, and begun again with the same file: the repair is accepted, and so is the recovery where it
-  -- was before, with the same answer and the same bytes.
-  pub repeats : (magic floor₁ floor : ℕ) (P f : List ℕ) (c₁ c₂ : ℕ) (T₁ T₂ T₃ : List Record) → Bytes P → Bytes f → Bytes (h .log) → c₁ ≤ c₂ → length T₁ ≡ length T₂ → length T₃ ≡ length T₂
+      → slotAt (pageAt i (recoverOf (lent magic floor (pagesAfter magic P f) (file h c z)) table .pages)) k ≡ ledger (h .pages) (entries (file h c z)) i k
+  -- Stopped anywhere in the repair, or in a recovery from a first file of the log, and begun again with the same double-write file: the repair is accepted, and so is the recovery from a second file
+  -- of the log where it was before, with the same answer and the same bytes. Neither the second cut nor its file with the zeros is shorter than the first's.
+  pub repeats : (magic floor₁ floor : ℕ) (P f : List ℕ) (c₁ z₁ c₂ z₂ : ℕ) (T₁ T₂ T₃ : List Record) → Bytes P → Bytes f → Bytes (h .log)
+      → c₁ ≤ c₂ → length (file h c₁ z₁) ≤ length (file h c₂ z₂) → length T₁ ≡ length T₂ → length T₃ ≡ length T₂
       → repairVerdict P f .number ≡ 0
-      → recoverOf (lent magic floor (pagesAfter magic P f) (take c₂ (h .log))) T₂ .answer .number ≡ 0
-      → (Q : List ℕ) → MixedRepaired P (pagesAfter magic P f) (recoverOf (lent magic floor₁ (pagesAfter magic P f) (take c₁ (h .log))) T₁ .pages) Q
+      → recoverOf (lent magic floor (pagesAfter magic P f) (file h c₂ z₂)) T₂ .answer .number ≡ 0
+      → (Q : List ℕ) → MixedRepaired P (pagesAfter magic P f) (recoverOf (lent magic floor₁ (pagesAfter magic P f) (file h c₁ z₁)) T₁ .pages) Q
       → (repairVerdict Q f .number ≡ 0)
-      × (recoverOf (lent magic floor (pagesAfter magic Q f) (take c₂ (h .log))) T₃ .answer ≡ recoverOf (lent magic floor (pagesAfter magic P f) (take c₂ (h .log))) T₂ .answer)
-      × (recoverOf (lent magic floor (pagesAfter magic Q f) (take c₂ (h .log))) T₃ .pages ≡ recoverOf (lent magic floor (pagesAfter magic P f) (take c₂ (h .log))) T₂ .pages)
+      × (recoverOf (lent magic floor (pagesAfter magic Q f) (file h c₂ z₂)) T₃ .answer ≡ recoverOf (lent magic floor (pagesAfter magic P f) (file h c₂ z₂)) T₂ .answer)
+      × (recoverOf (lent magic floor (pagesAfter magic Q f) (file h c₂ z₂)) T₃ .pages ≡ recoverOf (lent magic floor (pagesAfter magic P f) (file h c₂ z₂)) T₂ .pages)

@@ -24,5 +24,5 @@ tornPages = pageAt 0 stood ++ tear (pageAt 1 stood)
 abbrev pub both : List ℕ
 both = 0 ∷ 1 ∷ []
 
-abbrev pub file : List ℕ
-file = fileOf stood both
+abbrev pub copies : List ℕ
+copies = fileOf stood both
