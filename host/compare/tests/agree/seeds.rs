@@ -241,7 +241,7 @@ fn torn_pages_are_repaired() {
     let seen = seen();
     assert_no_differences(seen);
     for kind in file_kinds() {
-        assert_often(seen, &[(kind, 100)]);
+        assert_often(seen, &[(kind, 200)]);
     }
     assert_gives(seen, "doublewrite_read", &[0, 1, 22, 23, 24, 25]);
     assert_gives(seen, "repair", &[0, 1, 22, 23, 24, 25]);
@@ -251,17 +251,17 @@ fn torn_pages_are_repaired() {
         &[
             ("repaired", 5_000),
             ("copy taken", 5_000),
-            ("copy that is not good", 500),
-            ("torn page without a copy", 500),
-            ("page at fault with a right checksum", 500),
-            ("repair stopped between pages", 2_000),
+            ("copy that is not good", 1_500),
+            ("torn page without a copy", 1_500),
+            ("page at fault with a right checksum", 1_000),
+            ("repair stopped between pages", 4_000),
             ("recovered after a repair", 1_000),
-            ("ledger after a repair", 1_000),
-            ("stopped in repair and recovery", 500),
-            ("file written", 2_000),
-            ("area one byte short of a file", 500),
-            ("area as long as a file", 500),
-            ("list with the page past the last", 500),
+            ("ledger after a repair", 500),
+            ("stopped in repair and recovery", 300),
+            ("file written", 3_000),
+            ("area one byte short of a file", 1_000),
+            ("area as long as a file", 1_000),
+            ("list with the page past the last", 1_000),
         ],
     );
 }
