@@ -3,7 +3,7 @@ use Prim.Native.Nat.{ℕ, zero, suc, _+_, _*_, _/_, _<_}
 use mathlib.Core.Path.{_≡_}
 use mathlib.Core.List.{List, [], _∷_, _++_}
 use mathlib.Core.Bool.{Bool, false, not, _&&_}
-use lib.ListN.{length, take, drop}
+use lib.ListN.{length, take, drop, getD}
 use lib.Dec.{ltb, leb, eqb}
 use Rattle.endian.specs.Pick.{pick, consIf}
 use Rattle.page.specs.Layout.{dataType, pagesIn, pageAt, typeOf, countOf, slotAt, tupleOffset, xmaxOf, deletedOf, payloadOf}
@@ -135,3 +135,13 @@ rowList magic s rs i k room = pick (eqb (verdictOf magic s .number) 0) (listOf s
 
 unfoldable pub rowsAfter : ℕ → List ℕ → List Row → ℕ → ℕ → List ℕ → List ℕ
 rowsAfter magic s rs i k out = pick (eqb (verdictOf magic s .number) 0) (listAfter rs i k out) out
+
+-- ---- what a listing knows beforehand, so that it need not look at the tuples
+
+-- no slot of a page holds a cancelled row
+pub record NoneCancelled (p : List ℕ) : Type 0 where
+  pub at : (k : ℕ) → k < countOf p → cancelled (slotAt p k) ≡ false
+
+-- of the first n pages those that are noted by a 1 have no cancelled row
+pub record Noted (s notes : List ℕ) (n : ℕ) : Type 0 where
+  pub at : (i : ℕ) → i < n → getD notes i 0 ≡ 1 → pageRows cancelled i (pageAt i s) ≡ []

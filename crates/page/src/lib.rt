@@ -153,7 +153,8 @@ fn list_rows(
     ensures { λ r. ⌜ r ≡ rowList magic (now (pages .entry)) (rowsOf (shown live) (now (pages .entry))) (page .0) slot (length (now (out .entry)) / numbersPerRow) ⌝ }
     ensures { λ _. ⌜ now (out .exit) ≡ rowsAfter magic (now (pages .entry)) (rowsOf (shown live) (now (pages .entry))) (page .0) slot (now (out .entry)) ⌝ }
 {
-    let v = verify(magic, pages);
+    let mut notes = [0u8; PAGE_LIMIT];
+    let v = inner::verify_noting(magic, pages, &mut notes);
     if v.number != 0 {
         return RowList {
             verdict: v,
@@ -162,7 +163,7 @@ fn list_rows(
             slot: 0,
         };
     }
-    list::fill(pages, live, page.0 as usize, slot, out)
+    list::fill(pages, &notes, live, page.0 as usize, slot, out)
 }
 
 // Fills the lent numbers with the visible rows at or after a slot of a page, four numbers a row: page, slot, length, offset in the page area; verifies the pages once. Gives

@@ -18,16 +18,16 @@ returns : tie.Need-returns
 returns c =
     let v = c .before .before in
     let a = v .before .before .before .args in
-    write-refused (a .magic) (a .pages .now) (a .lsn .0) (a .area .now) (v .verify .result) (v .verify .ensures) (c .if1 .taken)
+    write-refused (a .magic) (a .pages .now) (a .lsn .0) (a .area .now) (v .verify-noting .result) (v .verify-noting .ensures .0) (c .if1 .taken)
 
 -- the pages are not refused
 fine : (c : tie.Else1) → let a = c .before .before .before .before .before .args in verdictOf (a .magic) (a .pages .now) .number ≡ 0
-fine c = sym (ap number-of (c .before .before .verify .ensures)) ∙ c .if1 .left
+fine c = sym (ap number-of (c .before .before .verify-noting .ensures .0)) ∙ c .if1 .left
 
 measure-requires : tie.Need-measure-requires
 measure-requires c κs =
     let a = c .before .before .before .before .before .args in
-    (listable (a .magic) (a .pages .now) (fine c), accepted-size (a .magic) (a .pages .now) 0 (fine c) .1)
+    (listable (a .magic) (a .pages .now) (fine c), (accepted-size (a .magic) (a .pages .now) 0 (fine c) .1, c .before .before .verify-noting .ensures .1 (c .if1 .left)))
 
 -- rows and bytes as they were measured
 rows-are : (c : tie.After-measure) → c .measure .result .rows ≡ length (visibleRows (c .before .before .before .before .before .before .args .pages .now))
@@ -59,7 +59,7 @@ returns-2 c =
     let i = h .before .before in
     let v = i .before .before in
     let a = v .before .before .before .args in
-    write-short (a .magic) (a .pages .now) (a .lsn .0) (a .area .now) (v .verify .result) (v .verify .ensures) (i .if1 .left) (h .head-size .result + h .before .measure .result .bytes) (need h) (c .if2 .taken)
+    write-short (a .magic) (a .pages .now) (a .lsn .0) (a .area .now) (v .verify-noting .result) (v .verify-noting .ensures .0) (i .if1 .left) (h .head-size .result + h .before .measure .result .bytes) (need h) (c .if2 .taken)
 
 put-file-requires : tie.Need-put-file-requires
 put-file-requires c κs =
@@ -67,7 +67,7 @@ put-file-requires c κs =
     let h = j .before .before in
     let i = h .before .before in
     let a = i .before .before .before .before .before .args in
-    (listable (a .magic) (a .pages .now) (fine i), (rows-are (h .before), omega (arith, j .if2 .left, h .head-size .ensures .0, bytes-are (h .before))))
+    (listable (a .magic) (a .pages .now) (fine i), (rows-are (h .before), (omega (arith, j .if2 .left, h .head-size .ensures .0, bytes-are (h .before)), i .before .before .verify-noting .ensures .1 (i .if1 .left))))
 
 returns-3 : tie.Need-returns-3
 returns-3 c =
@@ -77,7 +77,7 @@ returns-3 c =
     let i = h .before .before in
     let v = i .before .before in
     let a = v .before .before .before .args in
-    write-done (a .magic) (a .pages .now) (a .lsn .0) (a .area .now) (v .verify .result) (v .verify .ensures) (i .if1 .left) (h .head-size .result + h .before .measure .result .bytes) (need h) (j .if2 .left) (p .put-file .last .1 .1 .1 .0) (p .put-file .ensures)
+    write-done (a .magic) (a .pages .now) (a .lsn .0) (a .area .now) (v .verify-noting .result) (v .verify-noting .ensures .0) (i .if1 .left) (h .head-size .result + h .before .measure .result .bytes) (need h) (j .if2 .left) (p .put-file .last .1 .1 .1 .0) (p .put-file .ensures)
 
 pub write-spec : {M : Type 1} → statement M
 write-spec =

@@ -11,10 +11,10 @@ use Rattle.page.proofs.list.fill.Statement.{statement}
 use Rattle.page.proofs.list.fill.Tie as tie
 
 abbrev Inv-loop : tie.InvT-loop
-Inv-loop pages live index slot out₀ i₀ k₀ m₀ out i k m = Given (shown live) pages out₀ index slot i k m out
+Inv-loop pages notes live index slot out₀ i₀ k₀ m₀ out i k m = Given (shown live) pages out₀ index slot i k m out
 
 abbrev μ-loop : tie.MeasureT-loop
-μ-loop pages live index slot out₀ i₀ k₀ m₀ out i k m = length (rowsAt i k (rowsOf (shown live) pages))
+μ-loop pages notes live index slot out₀ i₀ k₀ m₀ out i k m = length (rowsAt i k (rowsOf (shown live) pages))
 
 loop-holds : tie.Need-loop-holds Inv-loop μ-loop
 loop-holds c = given-none _ _ _ _ _
@@ -59,7 +59,7 @@ add-k : tie.Need-add-k Inv-loop μ-loop
 add-k c =
     let n = c .before .before .before .before .before .before .before in
     let s = n .before .before .before .before .before .before in
-    record { fits = omega (arith, row-stands _ (empty (s .args .live)) _ (s .pre) _ _ _ (met n) .low) }
+    record { fits = omega (arith, row-stands _ (empty (s .args .live)) _ (s .pre .0) _ _ _ (met n) .low) }
 
 loop-less : tie.Need-loop-less Inv-loop μ-loop
 loop-less c = let n = c .before .before .before .before .before .before .before in omega (arith, ap length (row-next _ _ _ _ _ (met n)))
