@@ -1,12 +1,12 @@
-/* Lumbraquay's C interface: crash recovery of heap pages by their write-ahead log.
+/* Lumbraquay's C interface: crash recovery of heap pages by their write-ahead log, and the table rows of their catalog.
  *
  * Every function is total: for any bytes, lengths and numbers it ends and gives the answer that is written here.
  * None allocates, does input or output, keeps a pointer or has state of its own, so calls on different buffers may run
  * at the same time. Each needs under 1 MiB of stack.
  *
  * Buffers. A buffer is a pointer and its length: in bytes, or for table, rows and out in numbers. Where the length is 0
- * the pointer is not looked at and may be NULL. A buffer that is written (pages of lq_recover, table, rows, map, out)
- * overlaps no other.
+ * the pointer is not looked at and may be NULL. A buffer that is written (pages of lq_recover, table, rows, map,
+ * area, out) overlaps no other.
  *
  * Answers. A function writes its answer to out, one number after another in the order of the names below, but no more
  * than out_len of them; what out has behind them stays. Later versions may add numbers at the end of an answer and
@@ -38,9 +38,10 @@ uint32_t lq_version(void);
 
 /* The refusals: number, name and meaning of each. The first that holds in this order is given: 1, 2, 3; then entry by
  * entry 4 to 10 in turn; then page by page 11, 17, 18, 19 and 12 in turn; then 13, the earliest entry; then 14, the
- * lowest page; then 15 or 16. The place of 4 to 10 and 13 is the entry's offset in the log; of 11, 12, 14, 17 and 18
- * the page's index; of 19 the offset in the pages of what breaks the rule, 16,384 x index + 10 for an item count over
- * 4,080, + 32 for the free start, + 34 for the free end, + 64 + 4 x k for slot k; else 0. */
+ * lowest page; then 15 or 16. 34 to 38 are given of a catalog payload alone. The place of 4 to 10 and 13 is the entry's
+ * offset in the log; of 11, 12, 14, 17 and 18 the page's index; of 19 the offset in the pages of what breaks the rule,
+ * 16,384 x index + 10 for an item count over 4,080, + 32 for the free start, + 34 for the free end, + 64 + 4 x k for
+ * slot k; else 0. */
 #define LQ_EACH_REFUSAL(X) \
     X(0, LQ_DONE, "done") \
     X(1, LQ_PAGE_AREA, "the page bytes are no multiple of 16,384, or there are over 4,096 pages") \
@@ -62,7 +63,12 @@ uint32_t lq_version(void);
     X(16, LQ_MAP_SHORT, "the lent free map is too short") \
     X(17, LQ_PAGE_ID, "a page has another id than its index") \
     X(18, LQ_PAGE_CHECKSUM, "a page's checksum is not that of its body") \
-    X(19, LQ_PAGE_SLOTS, "a data page breaks a rule of slots: its item count, free start, free end or a slot is wrong")
+    X(19, LQ_PAGE_SLOTS, "a data page breaks a rule of slots: its item count, free start, free end or a slot is wrong") \
+    X(34, LQ_TABLE_ROW_ENDS_EARLY, "a catalog payload ends before its names do") \
+    X(35, LQ_TABLE_ROW_FORM, "a catalog payload has 2 to 8 or more than 9 bytes after its names") \
+    X(36, LQ_TABLE_ROW_LAYOUT, "a layout of a table other than 0 (heap) and 1 (clustered)") \
+    X(37, LQ_TABLE_ROW_NO_ROOM, "a name of a table has over 255 bytes, or the lent area is too short for its row") \
+    X(38, LQ_TABLE_ROW_NEWER, "a catalog payload has the newest form, which an older reader does not know")
 
 enum lq_refusal {
 #define LQ_REFUSAL_CONSTANT(number, name, meaning) name = number,
@@ -140,7 +146,8 @@ enum lq_step {
 void lq_verify(uint64_t magic, const uint8_t *pages, size_t len, uint64_t *out, size_t out_len);
 
 /* The same of the pages from an index on; numbers and places are those of all the pages. To find every bad page, go on
- * behind the one that is given. A page lent by itself would be refused by 17. */
+ * behind the one that is given. An index behind the last page gives 0, or 1 for a wrong size. A page lent by itself
+ * would be refused by 17. */
 void lq_verify_from(uint64_t magic, const uint8_t *pages, size_t len, uint64_t first, uint64_t *out, size_t out_len);
 
 /* The answer of both. */
@@ -205,8 +212,8 @@ enum lq_read_row_answer {
 /* Where a row's payload stands. */
 enum lq_source { LQ_FROM_NOWHERE = 0, LQ_FROM_LOG = 1, LQ_FROM_PAGES = 2 };
 
-/* The first row with deleted byte 0 on a page of type 1, at or after a slot of a page. Refuses as lq_verify does: each
- * call checks every page. */
+/* The first visible row at or after a slot of a page: one with deleted byte 0 and xmax 0, on a page of type 1. Refuses
+ * as lq_verify does: each call checks every page. */
 void lq_next_visible(uint64_t magic, const uint8_t *pages, size_t len, uint64_t page, uint16_t slot, uint64_t *out,
                      size_t out_len);
 
@@ -222,9 +229,9 @@ enum lq_next_visible_answer {
 };
 #define LQ_NEXT_VISIBLE_NUMBERS 7
 
-/* The rows with deleted byte 0 on pages of type 1, from a slot of a page on, as many as rows has room for:
- * rows_len / LQ_ROW_NUMBERS; later numbers stay. Refuses as lq_verify does: each call checks every page, so lend room
- * for many. To go on, call again from the page and slot that are given back. */
+/* The visible rows from a slot of a page on, as many as rows has room for: rows_len / LQ_ROW_NUMBERS; later numbers
+ * stay. Refuses as lq_verify does: each call checks every page, so lend room for many. To go on, call again from the
+ * page and slot that are given back. */
 void lq_list_visible(uint64_t magic, const uint8_t *pages, size_t len, uint64_t page, uint16_t slot, uint64_t *rows,
                      size_t rows_len, uint64_t *out, size_t out_len);
 
@@ -236,6 +243,11 @@ enum lq_list_visible_answer {
     LQ_LIST_VISIBLE_SLOT = 4   /* its slot; 0 */
 };
 #define LQ_LIST_VISIBLE_NUMBERS 5
+
+/* The cancelled rows from a slot of a page on: those that lq_list_visible passes over, with deleted byte 1 or an xmax
+ * other than 0. Rows, answer and refusals are as there. */
+void lq_list_cancelled(uint64_t magic, const uint8_t *pages, size_t len, uint64_t page, uint16_t slot, uint64_t *rows,
+                       size_t rows_len, uint64_t *out, size_t out_len);
 
 /* A row of a listing. */
 enum lq_row {
@@ -257,6 +269,54 @@ enum lq_free_map_answer {
     LQ_FREE_MAP_FREE = 2 /* free pages */
 };
 #define LQ_FREE_MAP_NUMBERS 3
+
+/* The payload of a catalog's table row: table id u32, root page u64, schema length u8 and bytes, name length u8 and
+ * bytes, then nothing, one layout byte, or the layout byte and a u64 schema version. Missing parts mean heap and
+ * version 1. Names are plain bytes.
+ *
+ * Reads a payload: what stands behind the row header of a tuple. Refuses 34, 35 and 36. */
+void lq_table_read(const uint8_t *payload, size_t len, uint64_t *out, size_t out_len);
+
+/* The same for a reader that knows only the first two forms, so that it never shows a wrong layout: the newest form is
+ * refused by 38, whatever its layout byte. */
+void lq_table_read_older(const uint8_t *payload, size_t len, uint64_t *out, size_t out_len);
+
+/* The answer of both. */
+enum lq_table_read_answer {
+    LQ_TABLE_READ_NUMBER = 0,
+    LQ_TABLE_READ_PLACE = 1,
+    LQ_TABLE_READ_TABLE = 2,         /* the table id */
+    LQ_TABLE_READ_ROOT = 3,          /* the number of its root page */
+    LQ_TABLE_READ_SCHEMA_OFFSET = 4, /* in the payload, and so the name's */
+    LQ_TABLE_READ_SCHEMA_LENGTH = 5,
+    LQ_TABLE_READ_NAME_OFFSET = 6,
+    LQ_TABLE_READ_NAME_LENGTH = 7,
+    LQ_TABLE_READ_LAYOUT = 8,
+    LQ_TABLE_READ_VERSION = 9 /* of the schema */
+};
+#define LQ_TABLE_READ_NUMBERS 10
+
+/* Layouts of a table. */
+enum lq_layout { LQ_HEAP = 0, LQ_CLUSTERED = 1 };
+
+#define LQ_TABLE_LIMIT_BYTES 533 /* an area of so many bytes has room for every row */
+
+/* Writes a payload in the newest form at the front of area; later bytes stay. Refuses 36, then 37. It has 23 bytes
+ * beside those of the names. */
+void lq_table_write(uint32_t table, uint64_t root, const uint8_t *schema, size_t schema_len, const uint8_t *name,
+                    size_t name_len, uint8_t layout, uint64_t version, uint8_t *area, size_t area_len, uint64_t *out,
+                    size_t out_len);
+
+enum lq_table_write_answer {
+    LQ_TABLE_WRITE_NUMBER = 0,
+    LQ_TABLE_WRITE_PLACE = 1,
+    LQ_TABLE_WRITE_LENGTH = 2 /* the bytes written */
+};
+#define LQ_TABLE_WRITE_NUMBERS 3
+
+/* The first visible row, in the order of lq_list_visible, that lq_table_read reads and that has this table id; others
+ * are passed over. Refuses as lq_verify does. The answer is that of lq_next_visible. */
+void lq_table_find(uint64_t magic, const uint8_t *pages, size_t len, uint32_t table, uint64_t *out, size_t out_len);
 
 #ifdef __cplusplus
 }

@@ -20,6 +20,8 @@ use Rattle.refusals.specs.declared.Verdict.{Verdict}
 use Rattle.page.specs.declared.NextRow.{NextRow}
 use Rattle.page.specs.declared.RowList.{RowList}
 use Rattle.page.specs.declared.NextRow.the-variants.{Refused, At, NoMore}
+use Rattle.catalog.specs.declared.TableRow.{TableRow}
+use Rattle.catalog.specs.declared.Written.{Written}
 use Rattle.rules.specs.Lent.{Lent}
 
 -- lq_version
@@ -91,7 +93,7 @@ rowNumbers NoMore = 0 ∷ 0 ∷ 0 ∷ 0 ∷ 0 ∷ 0 ∷ 0 ∷ []
 unfoldable pub nextVisibleNumbers : ℕ → List ℕ → ℕ → ℕ → List ℕ
 nextVisibleNumbers magic pages page slot = rowNumbers (nextRow magic pages page slot)
 
--- lq_list_visible: number, place, rows given, page and slot to go on from
+-- lq_list_visible, lq_list_cancelled: number, place, rows given, page and slot to go on from
 abbrev pub listNumbers : RowList → List ℕ
 listNumbers l = l .verdict .number ∷ l .verdict .place ∷ l .count ∷ l .page .0 ∷ l .slot ∷ []
 
@@ -100,6 +102,19 @@ unfoldable pub freeMapNumbers : ℕ → List ℕ → List ℕ → List ℕ
 freeMapNumbers magic pages map =
     let v = mapVerdict magic pages map in
     v .number ∷ v .place ∷ freeCount magic pages map ∷ []
+
+-- ---- the catalog
+
+-- lq_table_read, lq_table_read_older: number, place, table id, root page, offset and length of the schema and of the name in the payload, layout, version
+abbrev pub tableNumbers : TableRow → List ℕ
+tableNumbers t =
+    t .verdict .number ∷ t .verdict .place ∷ t .table ∷ t .root .0 ∷ t .schema .at ∷ t .schema .length ∷ t .name .at ∷ t .name .length ∷ t .layout ∷ t .version ∷ []
+
+-- lq_table_write: number, place, length written
+abbrev pub writtenNumbers : Written → List ℕ
+writtenNumbers w = w .verdict .number ∷ w .verdict .place ∷ w .length ∷ []
+
+-- lq_table_find: as lq_next_visible
 
 -- ---- recovery
 

@@ -6,10 +6,13 @@ ghost use Rattle.wal.specs.Read.{found};
 ghost use Rattle.wal.specs.declared.Before.the-variants.{Found, Nothing};
 ghost use Prim.Native.Nat.{_/_};
 ghost use lib.ListN.{length};
-ghost use Rattle.page.specs.Rows.{numbersPerRow, rowList, rowsAfter};
+ghost use Rattle.page.specs.Rows.{visibleRows, cancelledRows, numbersPerRow, rowList, rowsAfter};
 ghost use Rattle.page.specs.FreeMap.{mapAfter};
-ghost use Rattle.capi.specs.Answers.{version, given, openNumbers, stepNumbers, kindForward, kindBackward, forwardNumbers, backwardNumbers, verifyNumbers, verifyFromNumbers, rowNumbers, nextVisibleNumbers, listNumbers, freeMapNumbers, answerNumbers, locatedNumbers, readRowNumbers};
+ghost use Rattle.catalog.specs.TableRows.{rowOf, olderRowOf, writeAnswer, areaAfter};
+ghost use Rattle.catalog.specs.Search.{tableFound};
+ghost use Rattle.capi.specs.Answers.{version, given, openNumbers, stepNumbers, kindForward, kindBackward, forwardNumbers, backwardNumbers, verifyNumbers, verifyFromNumbers, rowNumbers, nextVisibleNumbers, listNumbers, freeMapNumbers, tableNumbers, writtenNumbers, answerNumbers, locatedNumbers, readRowNumbers};
 ghost use Rattle.recovery.specs.Flat.{recoverFlat};
+use catalog::TableRow;
 use endian::Lsn;
 use endian::PageNumber;
 use page::NextRow;
@@ -205,10 +208,27 @@ pub extern "C" fn lq_list_visible(
     rows: &mut [u64],
     out: &mut [u64],
 )
-    ensures { λ _. ⌜ now (out .exit) ≡ given (listNumbers (rowList magic (now (pages .entry)) page slot (length (now (rows .entry)) / numbersPerRow))) (now (out .entry)) ⌝ }
-    ensures { λ _. ⌜ now (rows .exit) ≡ rowsAfter magic (now (pages .entry)) page slot (now (rows .entry)) ⌝ }
+    ensures { λ _. ⌜ now (out .exit) ≡ given (listNumbers (rowList magic (now (pages .entry)) (visibleRows (now (pages .entry))) page slot (length (now (rows .entry)) / numbersPerRow))) (now (out .entry)) ⌝ }
+    ensures { λ _. ⌜ now (rows .exit) ≡ rowsAfter magic (now (pages .entry)) (visibleRows (now (pages .entry))) page slot (now (rows .entry)) ⌝ }
 {
     let l = page::list_visible(magic, pages, PageNumber(page), slot as usize, rows);
+    give(&list_numbers(l), out);
+}
+
+// The cancelled rows, which that listing passes over, in the same way.
+#[no_mangle]
+pub extern "C" fn lq_list_cancelled(
+    magic: u64,
+    pages: &[u8],
+    page: u64,
+    slot: u16,
+    rows: &mut [u64],
+    out: &mut [u64],
+)
+    ensures { λ _. ⌜ now (out .exit) ≡ given (listNumbers (rowList magic (now (pages .entry)) (cancelledRows (now (pages .entry))) page slot (length (now (rows .entry)) / numbersPerRow))) (now (out .entry)) ⌝ }
+    ensures { λ _. ⌜ now (rows .exit) ≡ rowsAfter magic (now (pages .entry)) (cancelledRows (now (pages .entry))) page slot (now (rows .entry)) ⌝ }
+{
+    let l = page::list_cancelled(magic, pages, PageNumber(page), slot as usize, rows);
     give(&list_numbers(l), out);
 }
 
@@ -220,6 +240,74 @@ pub extern "C" fn lq_free_map(magic: u64, pages: &[u8], map: &mut [u8], out: &mu
 {
     let made = page::free_map(magic, pages, map);
     give(&[made.verdict.number, made.verdict.place, made.free], out);
+}
+
+// The numbers of a table's row.
+fn table_numbers(t: TableRow) -> [u64; 10]
+    ensures { λ r. ⌜ r ≡ tableNumbers t ⌝ }
+{
+    let v = t.verdict;
+    let root = t.root;
+    let schema = t.schema;
+    let name = t.name;
+    [
+        v.number,
+        v.place,
+        t.table as u64,
+        root.0,
+        schema.at as u64,
+        schema.length as u64,
+        name.at as u64,
+        name.length as u64,
+        t.layout as u64,
+        t.version,
+    ]
+}
+
+// A catalog payload as the newest reader reads it.
+#[no_mangle]
+pub extern "C" fn lq_table_read(payload: &[u8], out: &mut [u64])
+    ensures { λ _. ⌜ now (out .exit) ≡ given (tableNumbers (rowOf (now (payload .entry)))) (now (out .entry)) ⌝ }
+{
+    let t = catalog::read(payload);
+    give(&table_numbers(t), out);
+}
+
+// A catalog payload as a reader reads it that knows only the first two forms.
+#[no_mangle]
+pub extern "C" fn lq_table_read_older(payload: &[u8], out: &mut [u64])
+    ensures { λ _. ⌜ now (out .exit) ≡ given (tableNumbers (olderRowOf (now (payload .entry)))) (now (out .entry)) ⌝ }
+{
+    let t = catalog::read_older(payload);
+    give(&table_numbers(t), out);
+}
+
+// Writes a catalog payload in the newest form: number, place and length.
+#[no_mangle]
+pub extern "C" fn lq_table_write(
+    table: u32,
+    root: u64,
+    schema: &[u8],
+    name: &[u8],
+    layout: u8,
+    version: u64,
+    area: &mut [u8],
+    out: &mut [u64],
+)
+    ensures { λ _. ⌜ now (out .exit) ≡ given (writtenNumbers (writeAnswer (now (schema .entry)) (now (name .entry)) layout (now (area .entry)))) (now (out .entry)) ⌝ }
+    ensures { λ _. ⌜ now (area .exit) ≡ areaAfter table root (now (schema .entry)) (now (name .entry)) layout version (now (area .entry)) ⌝ }
+{
+    let w = catalog::write(table, PageNumber(root), schema, name, layout, version, area);
+    give(&[w.verdict.number, w.verdict.place, w.length as u64], out);
+}
+
+// The first visible row with a readable payload and that table id.
+#[no_mangle]
+pub extern "C" fn lq_table_find(magic: u64, pages: &[u8], table: u32, out: &mut [u64])
+    ensures { λ _. ⌜ now (out .exit) ≡ given (rowNumbers (tableFound magic (now (pages .entry)) table)) (now (out .entry)) ⌝ }
+{
+    let found = catalog::find_table(magic, pages, table);
+    give(&row_numbers(found), out);
 }
 
 // The numbers of an answer.

@@ -6,7 +6,9 @@ pub mod Writing
 pub mod Pasting
 pub mod Packing
 pub mod Listing
+pub mod ListedRows
 pub mod RowLists
+pub mod Searching
 pub mod Visibility
 pub mod Mapping
 pub mod Picks

@@ -1,4 +1,4 @@
--- The first visible row at or after a place, page by page and slot by slot.
+-- The first row of a listing at or after a place, page by page and slot by slot.
 -- Assumes nothing.
 use mathlib.Core.Path.{_≡_, refl, sym, ap, _∙_}
 use mathlib.Core.Bool.{Bool, true, false}
@@ -14,7 +14,7 @@ use types.Run.{OneOf, miss}
 use denote.Enum.Declared.{tagOf}
 use Rattle.endian.specs.Pick.{pick, consIf}
 use Rattle.page.specs.Layout.{dataType, pageAt, typeOf, countOf, slotAt}
-use Rattle.page.specs.Rows.{visible, row, slotRows, pageRows, rowsFrom, visibleRows, atOrAfter, firstAt, nextRow, Listable}
+use Rattle.page.specs.Rows.{row, slotRows, pageRows, rowsFrom, visibleRows, atOrAfter, firstAt, nextRow, Listable}
 use Rattle.page.specs.Fault.{verdictOf}
 use Rattle.page.specs.declared.Row.{Row}
 use Rattle.page.specs.declared.NextRow.{NextRow}
@@ -84,18 +84,18 @@ module _ (i k : ℕ) where
 
 -- ---- the slots of page i, from slot k on
 
-module _ (i k : ℕ) (p : List ℕ) where
+module _ (shows : List ℕ → Bool) (i k : ℕ) (p : List ℕ) where
   -- the slots before k
-  skipped : (m n j : ℕ) → j + m ≤ k → firstAt i k (slotRows i p (m + n) j) ≡ firstAt i k (slotRows i p n (j + m))
+  skipped : (m n j : ℕ) → j + m ≤ k → firstAt i k (slotRows shows i p (m + n) j) ≡ firstAt i k (slotRows shows i p n (j + m))
   unfolding slotRows
   skipped zero n j l = rw (zero-add, add-zero)
   skipped (suc m) n j l =
       let e : suc m + n ≡ suc (m + n) = omega arith in
       let g : j + suc m ≡ suc j + m = omega arith in
-      rw (e, g) (cons-passed i k (visible (slotAt p j)) (row i j p) (slotRows i p (m + n) (suc j)) (in-earlier-slot i k j p (omega arith))
+      rw (e, g) (cons-passed i k (shows (slotAt p j)) (row i j p) (slotRows shows i p (m + n) (suc j)) (in-earlier-slot i k j p (omega arith))
       ∙ skipped m n (suc j) (omega arith))
 
-  pub slots-from : (n : ℕ) → firstAt i k (slotRows i p (n - k) k) ≡ firstAt i k (slotRows i p n 0)
+  pub slots-from : (n : ℕ) → firstAt i k (slotRows shows i p (n - k) k) ≡ firstAt i k (slotRows shows i p n 0)
   unfolding slotRows
   slots-from n =
       elim (decLe k n) [
@@ -104,57 +104,57 @@ module _ (i k : ℕ) (p : List ℕ) where
       ]
 
   module _ (n j : ℕ) (more : j < n) where
-    one : slotRows i p (n - j) j ≡ consIf (visible (slotAt p j)) (row i j p) (slotRows i p (n - (j + 1)) (j + 1))
+    one : slotRows shows i p (n - j) j ≡ consIf (shows (slotAt p j)) (row i j p) (slotRows shows i p (n - (j + 1)) (j + 1))
     unfolding slotRows
     one = let e : n - j ≡ suc (n - (j + 1)) = omega arith in rw (e, add-one)
 
-    pub slot-passed : visible (slotAt p j) ≡ false → firstAt i k (slotRows i p (n - j) j) ≡ firstAt i k (slotRows i p (n - (j + 1)) (j + 1))
+    pub slot-passed : shows (slotAt p j) ≡ false → firstAt i k (slotRows shows i p (n - j) j) ≡ firstAt i k (slotRows shows i p (n - (j + 1)) (j + 1))
     slot-passed e = rw (one, e)
 
-    pub slot-found : k ≤ j → visible (slotAt p j) ≡ true → firstAt i k (slotRows i p (n - j) j) ≡ At (row i j p)
+    pub slot-found : k ≤ j → shows (slotAt p j) ≡ true → firstAt i k (slotRows shows i p (n - j) j) ≡ At (row i j p)
     unfolding firstAt
     slot-found l e = rw (one, e, in-later-slot i k j p l)
 
-  pub slots-done : (n j : ℕ) → n ≤ j → firstAt i k (slotRows i p (n - j) j) ≡ NoMore
+  pub slots-done : (n j : ℕ) → n ≤ j → firstAt i k (slotRows shows i p (n - j) j) ≡ NoMore
   unfolding slotRows firstAt
   slots-done n j l = let e : n - j ≡ 0 = omega arith in rw e
 
   -- a page of another type has none
-  pub page-other : (typeOf p ≡ dataType → ⊥) → NoMore ≡ firstAt i k (pageRows i p)
+  pub page-other : (typeOf p ≡ dataType → ⊥) → NoMore ≡ firstAt i k (pageRows shows i p)
   unfolding pageRows firstAt
   page-other h = rw (ne-eqb _ _ h)
 
-  pub page-data : typeOf p ≡ dataType → firstAt i k (slotRows i p (countOf p) 0) ≡ firstAt i k (pageRows i p)
+  pub page-data : typeOf p ≡ dataType → firstAt i k (slotRows shows i p (countOf p) 0) ≡ firstAt i k (pageRows shows i p)
   unfolding pageRows
   page-data h = rw (eq-eqb _ _ h)
 
 -- ---- the pages, from page i on
 
-module _ (i k : ℕ) where
+module _ (shows : List ℕ → Bool) (i k : ℕ) where
   -- the pages before i
-  early-slots : (j : ℕ) (p : List ℕ) (n m : ℕ) → j < i → firstAt i k (slotRows j p n m) ≡ NoMore
+  early-slots : (j : ℕ) (p : List ℕ) (n m : ℕ) → j < i → firstAt i k (slotRows shows j p n m) ≡ NoMore
   unfolding slotRows firstAt
   early-slots j p zero m l = refl
   early-slots j p (suc n) m l =
-      cons-passed i k (visible (slotAt p m)) (row j m p) (slotRows j p n (suc m)) (on-earlier-page i k j m p l) ∙ early-slots j p n (suc m) l
+      cons-passed i k (shows (slotAt p m)) (row j m p) (slotRows shows j p n (suc m)) (on-earlier-page i k j m p l) ∙ early-slots j p n (suc m) l
 
-  early-page : (j : ℕ) (p : List ℕ) → j < i → firstAt i k (pageRows j p) ≡ NoMore
+  early-page : (j : ℕ) (p : List ℕ) → j < i → firstAt i k (pageRows shows j p) ≡ NoMore
   unfolding pageRows firstAt
   early-page j p l = by-type (eqb (typeOf p) dataType)
     where
-      by-type : (t : Bool) → firstAt i k (pick t (slotRows j p (countOf p) 0) []) ≡ NoMore
+      by-type : (t : Bool) → firstAt i k (pick t (slotRows shows j p (countOf p) 0) []) ≡ NoMore
       by-type true = early-slots j p (countOf p) 0 l
       by-type false = refl
 
-  skipped-pages : (s : List ℕ) (m n j : ℕ) → j + m ≤ i → firstAt i k (rowsFrom s (m + n) j) ≡ firstAt i k (rowsFrom s n (j + m))
+  skipped-pages : (s : List ℕ) (m n j : ℕ) → j + m ≤ i → firstAt i k (rowsFrom shows s (m + n) j) ≡ firstAt i k (rowsFrom shows s n (j + m))
   unfolding rowsFrom
   skipped-pages s zero n j l = rw (zero-add, add-zero)
   skipped-pages s (suc m) n j l =
       let e : suc m + n ≡ suc (m + n) = omega arith in
       let g : j + suc m ≡ suc j + m = omega arith in
-      rw (e, g) (none-then i k (pageRows j (pageAt j s)) (rowsFrom s (m + n) (suc j)) (early-page j (pageAt j s) (omega arith)) ∙ skipped-pages s m n (suc j) (omega arith))
+      rw (e, g) (none-then i k (pageRows shows j (pageAt j s)) (rowsFrom shows s (m + n) (suc j)) (early-page j (pageAt j s) (omega arith)) ∙ skipped-pages s m n (suc j) (omega arith))
 
-  pub pages-from : (s : List ℕ) (n : ℕ) → firstAt i k (rowsFrom s (n - i) i) ≡ firstAt i k (rowsFrom s n 0)
+  pub pages-from : (s : List ℕ) (n : ℕ) → firstAt i k (rowsFrom shows s (n - i) i) ≡ firstAt i k (rowsFrom shows s n 0)
   unfolding rowsFrom
   pages-from s n =
       elim (decLe i n) [
@@ -162,7 +162,7 @@ module _ (i k : ℕ) where
         | no l ↦ let e : n - i ≡ 0 = omega arith in rw e (sym (rw (add-zero n) at (skipped-pages s n 0 0 (omega arith))))
       ]
 
-  pub pages-done : (s : List ℕ) (n : ℕ) → n ≤ i → firstAt i k (rowsFrom s (n - i) i) ≡ NoMore
+  pub pages-done : (s : List ℕ) (n : ℕ) → n ≤ i → firstAt i k (rowsFrom shows s (n - i) i) ≡ NoMore
   unfolding rowsFrom firstAt
   pages-done s n l = let e : n - i ≡ 0 = omega arith in rw e
 
@@ -174,38 +174,38 @@ module _ (i k : ℕ) where
   cons-later false j m x xs rest l e = e
 
   later-slots : (j : ℕ) (p : List ℕ) (n m : ℕ) (rest : List Row) → i < j → firstAt i k rest ≡ firstAt (suc i) 0 rest
-      → firstAt i k (slotRows j p n m ++ rest) ≡ firstAt (suc i) 0 (slotRows j p n m ++ rest)
+      → firstAt i k (slotRows shows j p n m ++ rest) ≡ firstAt (suc i) 0 (slotRows shows j p n m ++ rest)
   unfolding slotRows
   later-slots j p zero m rest l e = e
   later-slots j p (suc n) m rest l e =
-      cons-later (visible (slotAt p m)) j m p (slotRows j p n (suc m)) rest l (later-slots j p n (suc m) rest l e)
+      cons-later (shows (slotAt p m)) j m p (slotRows shows j p n (suc m)) rest l (later-slots j p n (suc m) rest l e)
 
   later-page : (j : ℕ) (p : List ℕ) (rest : List Row) → i < j → firstAt i k rest ≡ firstAt (suc i) 0 rest
-      → firstAt i k (pageRows j p ++ rest) ≡ firstAt (suc i) 0 (pageRows j p ++ rest)
+      → firstAt i k (pageRows shows j p ++ rest) ≡ firstAt (suc i) 0 (pageRows shows j p ++ rest)
   unfolding pageRows
   later-page j p rest l e = by-type (eqb (typeOf p) dataType)
     where
-      by-type : (t : Bool) → firstAt i k (pick t (slotRows j p (countOf p) 0) [] ++ rest) ≡ firstAt (suc i) 0 (pick t (slotRows j p (countOf p) 0) [] ++ rest)
+      by-type : (t : Bool) → firstAt i k (pick t (slotRows shows j p (countOf p) 0) [] ++ rest) ≡ firstAt (suc i) 0 (pick t (slotRows shows j p (countOf p) 0) [] ++ rest)
       by-type true = later-slots j p (countOf p) 0 rest l e
       by-type false = e
 
-  later-pages : (s : List ℕ) (n j : ℕ) → i < j → firstAt i k (rowsFrom s n j) ≡ firstAt (suc i) 0 (rowsFrom s n j)
+  later-pages : (s : List ℕ) (n j : ℕ) → i < j → firstAt i k (rowsFrom shows s n j) ≡ firstAt (suc i) 0 (rowsFrom shows s n j)
   unfolding rowsFrom firstAt
   later-pages s zero j l = refl
-  later-pages s (suc n) j l = later-page j (pageAt j s) (rowsFrom s n (suc j)) l (later-pages s n (suc j) (omega arith))
+  later-pages s (suc n) j l = later-page j (pageAt j s) (rowsFrom shows s n (suc j)) l (later-pages s n (suc j) (omega arith))
 
   module _ (s : List ℕ) (n : ℕ) (more : i < n) where
-    one-page : rowsFrom s (n - i) i ≡ pageRows i (pageAt i s) ++ rowsFrom s (n - (i + 1)) (i + 1)
+    one-page : rowsFrom shows s (n - i) i ≡ pageRows shows i (pageAt i s) ++ rowsFrom shows s (n - (i + 1)) (i + 1)
     unfolding rowsFrom
     one-page = let e : n - i ≡ suc (n - (i + 1)) = omega arith in rw (e, add-one)
 
-    pub page-passed : firstAt i k (pageRows i (pageAt i s)) ≡ NoMore → firstAt i k (rowsFrom s (n - i) i) ≡ firstAt (i + 1) 0 (rowsFrom s (n - (i + 1)) (i + 1))
+    pub page-passed : firstAt i k (pageRows shows i (pageAt i s)) ≡ NoMore → firstAt i k (rowsFrom shows s (n - i) i) ≡ firstAt (i + 1) 0 (rowsFrom shows s (n - (i + 1)) (i + 1))
     page-passed e =
-        ap (firstAt i k) one-page ∙ none-then i k (pageRows i (pageAt i s)) (rowsFrom s (n - (i + 1)) (i + 1)) e
+        ap (firstAt i k) one-page ∙ none-then i k (pageRows shows i (pageAt i s)) (rowsFrom shows s (n - (i + 1)) (i + 1)) e
         ∙ rw (add-one i) (later-pages s (n - suc i) (suc i) (omega arith))
 
-    pub page-found : (firstAt i k (pageRows i (pageAt i s)) ≡ NoMore → ⊥) → firstAt i k (rowsFrom s (n - i) i) ≡ firstAt i k (pageRows i (pageAt i s))
-    page-found h = ap (firstAt i k) one-page ∙ some-then i k (pageRows i (pageAt i s)) (rowsFrom s (n - (i + 1)) (i + 1)) h
+    pub page-found : (firstAt i k (pageRows shows i (pageAt i s)) ≡ NoMore → ⊥) → firstAt i k (rowsFrom shows s (n - i) i) ≡ firstAt i k (pageRows shows i (pageAt i s))
+    page-found h = ap (firstAt i k) one-page ∙ some-then i k (pageRows shows i (pageAt i s)) (rowsFrom shows s (n - (i + 1)) (i + 1)) h
 
 -- ---- the whole answer
 

@@ -9,13 +9,13 @@ use mathlib.Core.List.{List, [], _∷_, _++_}
 use mathlib.Core.Bool.{Bool, true, false}
 use lib.Dec.{ltb, eqb}
 use lib.ListN.{length, take, drop, set, getD, take-append-drop, length-drop, length-append}
-use lib.Seq.{drop-cons, set-at, append-snoc, take-add, take-at}
+use lib.Seq.{drop-cons, set-at, append-snoc, take-add, take-at, drop-at}
 use lib.Count.{ones, ones-step, ones-cat, ones-le}
 use lib.Pow.{pow-mono}
 use borrow.Author.Tests.{lt-ltb, le-ltb, eq-eqb, ne-eqb}
 use Rattle.endian.specs.Pick.{pick}
 use Rattle.endian.specs.Numbers.{numberOf, numberAt, Bytes}
-use Rattle.endian.proofs.Bytes.{bytes-take, bytes-drop, number-range, number-below}
+use Rattle.endian.proofs.Bytes.{bytes-nil, bytes-cons, bytes-take, bytes-drop, number-range, number-below}
 use Rattle.page.specs.Layout.{pageBytes, freeType, pagesIn, pageAt, typeOf}
 use Rattle.refusals.specs.Verdict.{verdict}
 use Rattle.page.specs.Fault.{verdictOf}
@@ -79,16 +79,20 @@ module _ (s : List ℕ) where
   pub length-filled : (d : List ℕ) (n : ℕ) → n ≤ length d → length (mapBytes s n 0 ++ drop n d) ≡ length d
   length-filled d n l = length-append (mapBytes s n 0) (drop n d) ∙ omega (arith, length-bytes n 0, length-drop n d)
 
-  bytes-more : (n i : ℕ) → mapBytes s (suc n) i ≡ mapBytes s n i ++ (bits s 8 (i + 8 * n) ∷ [])
+  bytes-join : (m n i : ℕ) → mapBytes s (m + n) i ≡ mapBytes s m i ++ mapBytes s n (i + 8 * m)
   unfolding mapBytes
-  bytes-more zero i = let e : i + 8 * 0 ≡ i = omega arith in rw e
-  bytes-more (suc n) i = let e : i + 8 * suc n ≡ i + 8 + 8 * n = omega arith in rw e (ap (λ (l : List ℕ). bits s 8 i ∷ l) (bytes-more n (i + 8)))
+  bytes-join zero n i = let e : i + 8 * 0 ≡ i = omega arith in let z : 0 + n ≡ n = omega arith in rw (e, z)
+  bytes-join (suc m) n i =
+      let e : i + 8 * suc m ≡ i + 8 + 8 * m = omega arith in
+      let z : suc m + n ≡ suc (m + n) = omega arith in
+      rw (e, z) (ap (λ (l : List ℕ). bits s 8 i ∷ l) (bytes-join m n (i + 8)))
 
   -- a store of the next byte
   pub byte-stored : (d : List ℕ) (m : ℕ) → m < length d → set (mapBytes s m 0 ++ drop m d) m (bits s 8 (8 * m)) ≡ mapBytes s (m + 1) 0 ++ drop (m + 1) d
+  unfolding mapBytes
   byte-stored d m l =
       let e : 0 + 8 * m ≡ 8 * m = omega arith in
-      rw (add-one m, bytes-more m 0, e, drop-cons d m 0)
+      rw (bytes-join m 1 0, e, add-one m, drop-cons d m 0)
       (set-at (mapBytes s m 0) (getD d m 0) (drop (suc m) d) (bits s 8 (8 * m)) m (length-bytes m 0) ∙ sym (append-snoc (mapBytes s m 0) (bits s 8 (8 * m)) (drop (suc m) d)))
 
   -- ---- the count
@@ -145,6 +149,25 @@ ones-number [] b = refl
 ones-number (x ∷ l) b =
     let e : x + 256 * numberOf l ≡ numberOf l * 2 ^ 8 + x = omega arith in
     ap ones e ∙ ones-cat 8 (numberOf l) x (b .at 0) ∙ ap (λ (n : ℕ). n + ones x) (ones-number l (record { at = λ i. b .at (suc i) })) ∙ omega arith
+
+module _ (s : List ℕ) where
+  bytes-map : (n i : ℕ) → Bytes (mapBytes s n i)
+  unfolding mapBytes
+  bytes-map zero i = bytes-nil
+  bytes-map (suc n) i = bytes-cons (bits-lt s 8 i) (bytes-map n (i + 8))
+
+  -- a step of eight bytes of the map gives the ones among their 64 bits: the free pages among the 64 from page 8 * i on
+  pub ones-step-8 : (n i : ℕ) → i + 8 ≤ n → ones (numberAt 8 i (mapBytes s n 0)) ≡ freePages s 64 (8 * i)
+  unfolding numberAt
+  ones-step-8 n i l =
+      let e : n ≡ i + (8 + (n - (i + 8))) = omega arith in
+      let z : 0 + 8 * i ≡ 8 * i = omega arith in
+      let m = mapBytes s (n - (i + 8)) (8 * i + 8 * 8) in
+      let d : drop i (mapBytes s n 0) ≡ mapBytes s 8 (8 * i) ++ m =
+      ap (λ (k : ℕ). drop i (mapBytes s k 0)) e ∙ ap (drop i) (bytes-join s i (8 + (n - (i + 8))) 0) ∙ drop-at (mapBytes s i 0) _ i (length-bytes s i 0)
+      ∙ ap (mapBytes s (8 + (n - (i + 8)))) z ∙ bytes-join s 8 (n - (i + 8)) (8 * i) in
+      let t = ap (take 8) d ∙ take-at (mapBytes s 8 (8 * i)) m 8 (length-bytes s 8 (8 * i)) in
+      ap (λ (k : List ℕ). ones (numberOf k)) t ∙ ones-number (mapBytes s 8 (8 * i)) (bytes-map 8 (8 * i)) ∙ ones-bytes s 8 (8 * i)
 
 module _ {s : List ℕ} (b : Bytes s) where
   -- a step over w bytes

@@ -8,7 +8,7 @@ use lib.ListN.{drop, getD}
 use lib.Seq.{getD-drop}
 use Rattle.endian.specs.Numbers.{part, numberAt}
 use Rattle.endian.proofs.Places.{number-take, number-drop, number-byte}
-use Rattle.page.specs.Layout.{pageBytes, rowHead, pageAt, typeOf, bodyOf, slotOff, slotLen, deletedOf}
+use Rattle.page.specs.Layout.{pageBytes, rowHead, pageAt, typeOf, bodyOf, slotOff, slotLen, xmaxOf, deletedOf}
 
 -- the type of page i of an area
 pub type-at : (s : List ℕ) (i : ℕ) → typeOf (pageAt i s) ≡ getD s (i * pageBytes + 8) 0
@@ -35,3 +35,9 @@ pub deleted-at : (p : List ℕ) (o n : ℕ) → rowHead ≤ n → deletedOf (par
 deleted-at p o n h =
     let e : 64 + (o + 16) ≡ 80 + o = omega arith in
     deleted-in (bodyOf p) o n h ∙ rw (getD-drop, e)
+
+-- its xmax
+pub xmax-at : (p : List ℕ) (o n : ℕ) → rowHead ≤ n → xmaxOf (part o n (bodyOf p)) ≡ numberAt 8 (72 + o) p
+xmax-at p o n h =
+    let e : 64 + (o + 8) ≡ 72 + o = omega arith in
+    number-take 8 8 n (drop o (bodyOf p)) (omega arith) ∙ number-drop 8 8 o (bodyOf p) ∙ body-number 8 (o + 8) p ∙ rw e

@@ -1,4 +1,4 @@
--- Visible rows one after another from a place on, and many of them stored as numbers.
+-- The rows of a listing one after another from a place on, and many of them stored as numbers.
 -- Assumes nothing.
 use mathlib.Core.Path.{_≡_, refl, sym, ap, _∙_}
 use mathlib.Core.Logic.{_⊎_, inl, inr}
@@ -15,8 +15,7 @@ use types.Run.{OneOf, miss}
 use denote.Enum.Declared.{tagOf}
 use Rattle.endian.specs.Pick.{pick, consIf}
 use Rattle.page.specs.Layout.{dataType, pagesIn, pageAt, typeOf, countOf, slotAt}
-use Rattle.page.specs.Good.{DataGood}
-use Rattle.page.specs.Rows.{visible, row, slotRows, pageRows, rowsFrom, visibleRows, atOrAfter, firstAt, rowsAt, Listable, numbersOf, numbersPerRow, numbersOfAll, listed, listOf, listAfter, noList, rowList, rowsAfter}
+use Rattle.page.specs.Rows.{row, slotRows, pageRows, rowsFrom, rowsOf, atOrAfter, firstAt, rowsAt, Listable, numbersOf, numbersPerRow, numbersOfAll, listed, listOf, listAfter, noList, rowList, rowsAfter}
 use Rattle.page.specs.Fault.{verdictOf}
 use Rattle.refusals.specs.declared.Verdict.{Verdict}
 use Rattle.page.specs.declared.Row.{Row}
@@ -24,11 +23,12 @@ use Rattle.page.specs.declared.RowList.{RowList}
 use Rattle.page.specs.declared.NextRow.{NextRow}
 use Rattle.page.specs.declared.NextRow.the-variants.{Refused, At, NoMore}
 use Rattle.page.proofs.NextRow.{the-type}
+use Rattle.page.proofs.ListedRows.{Each, Standing, rows-stand}
 
 -- ---- the order of places
 
 -- slot k of page i is at or before the place of r
-abbrev Before : ℕ → ℕ → Row → Type 0
+abbrev pub Before : ℕ → ℕ → Row → Type 0
 Before i k r = (i < r .page .0) ⊎ ((r .page .0 ≡ i) × (k ≤ r .slot))
 
 is-before : (i k : ℕ) (r : Row) → atOrAfter i k r ≡ true → Before i k r
@@ -39,7 +39,7 @@ is-before i k r h = go (eqb (r .page .0) i) refl h
     go true e q = inr (eqb-true _ _ e, leb-true _ _ q)
     go false e q = inl (ltb-true _ _ q)
 
-before-is : (i k : ℕ) (r : Row) → Before i k r → atOrAfter i k r ≡ true
+pub before-is : (i k : ℕ) (r : Row) → Before i k r → atOrAfter i k r ≡ true
 unfolding atOrAfter
 before-is i k r (inl l) = simp (ne-eqb (r .page .0) i (λ e. absurd (omega arith)), lt-ltb i (r .page .0) l)
 before-is i k r (inr p) = simp (eq-eqb (r .page .0) i (p .0), le-leb k (r .slot) (p .1))
@@ -54,11 +54,11 @@ not-before i k r h = go (atOrAfter i k r) refl
 -- ---- rows in their order
 
 -- each stands behind the one before it, and the first at or after slot k of page i
-abbrev Rising : ℕ → ℕ → List Row → Type 0
+abbrev pub Rising : ℕ → ℕ → List Row → Type 0
 Rising i k [] = Unit
 Rising i k (r ∷ rs) = Before i k r × Rising (r .page .0) (suc (r .slot)) rs
 
-lower : (i k i′ k′ : ℕ) (rs : List Row) → (i′ < i) ⊎ ((i′ ≡ i) × (k′ ≤ k)) → Rising i k rs → Rising i′ k′ rs
+pub lower : (i k i′ k′ : ℕ) (rs : List Row) → (i′ < i) ⊎ ((i′ ≡ i) × (k′ ≤ k)) → Rising i k rs → Rising i′ k′ rs
 lower i k i′ k′ [] h u = tt
 lower i k i′ k′ (r ∷ rs) h u = (go h (u .0), u .1)
   where
@@ -68,41 +68,43 @@ lower i k i′ k′ (r ∷ rs) h u = (go h (u .0), u .1)
     go (inr a) (inl b) = inl (omega arith)
     go (inr a) (inr b) = inr (omega arith, omega arith)
 
--- the slots of a page, then later pages
-rising-slots : (i : ℕ) (p : List ℕ) (n k : ℕ) (rest : List Row) → Rising (suc i) 0 rest → Rising i k (slotRows i p n k ++ rest)
-unfolding slotRows
-rising-slots i p zero k rest u = lower (suc i) 0 i k rest (inl (omega arith)) u
-rising-slots i p (suc n) k rest u = go (visible (slotAt p k)) (rising-slots i p n (suc k) rest u)
-  where
-    go : (t : Bool) → Rising i (suc k) (slotRows i p n (suc k) ++ rest) → Rising i k (consIf t (row i k p) (slotRows i p n (suc k)) ++ rest)
-    go true v = (inr (refl, omega arith), v)
-    go false v = lower i (suc k) i k (slotRows i p n (suc k) ++ rest) (inr (refl, omega arith)) v
+module _ (shows : List ℕ → Bool) where
+  -- the slots of a page, then later pages
+  rising-slots : (i : ℕ) (p : List ℕ) (n k : ℕ) (rest : List Row) → Rising (suc i) 0 rest → Rising i k (slotRows shows i p n k ++ rest)
+  unfolding slotRows
+  rising-slots i p zero k rest u = lower (suc i) 0 i k rest (inl (omega arith)) u
+  rising-slots i p (suc n) k rest u = go (shows (slotAt p k)) (rising-slots i p n (suc k) rest u)
+    where
+      go : (t : Bool) → Rising i (suc k) (slotRows shows i p n (suc k) ++ rest) → Rising i k (consIf t (row i k p) (slotRows shows i p n (suc k)) ++ rest)
+      go true v = (inr (refl, omega arith), v)
+      go false v = lower i (suc k) i k (slotRows shows i p n (suc k) ++ rest) (inr (refl, omega arith)) v
 
-rising-page : (i : ℕ) (p : List ℕ) (rest : List Row) → Rising (suc i) 0 rest → Rising i 0 (pageRows i p ++ rest)
-unfolding pageRows
-rising-page i p rest u = go (eqb (typeOf p) dataType)
-  where
-    go : (t : Bool) → Rising i 0 (pick t (slotRows i p (countOf p) 0) [] ++ rest)
-    go true = rising-slots i p (countOf p) 0 rest u
-    go false = lower (suc i) 0 i 0 rest (inl (omega arith)) u
+  rising-page : (i : ℕ) (p : List ℕ) (rest : List Row) → Rising (suc i) 0 rest → Rising i 0 (pageRows shows i p ++ rest)
+  unfolding pageRows
+  rising-page i p rest u = go (eqb (typeOf p) dataType)
+    where
+      go : (t : Bool) → Rising i 0 (pick t (slotRows shows i p (countOf p) 0) [] ++ rest)
+      go true = rising-slots i p (countOf p) 0 rest u
+      go false = lower (suc i) 0 i 0 rest (inl (omega arith)) u
 
-rising-pages : (s : List ℕ) (n i : ℕ) → Rising i 0 (rowsFrom s n i)
-unfolding rowsFrom
-rising-pages s zero i = tt
-rising-pages s (suc n) i = rising-page i (pageAt i s) (rowsFrom s n (suc i)) (rising-pages s n (suc i))
+  pub rising-pages : (s : List ℕ) (n i : ℕ) → Rising i 0 (rowsFrom shows s n i)
+  unfolding rowsFrom
+  rising-pages s zero i = tt
+  rising-pages s (suc n) i = rising-page i (pageAt i s) (rowsFrom shows s n (suc i)) (rising-pages s n (suc i))
+
+-- what is behind a row is behind every place before it
+pub down : (i k : ℕ) (r : Row) → Before i k r → (i < r .page .0) ⊎ ((i ≡ r .page .0) × (k ≤ suc (r .slot)))
+down i k r (inl l) = inl l
+down i k r (inr p) = inr (sym (p .0), omega arith)
 
 -- ---- one row after another
 
 module _ (i k : ℕ) where
   -- rows that are all behind a place
-  all-at : (rs : List Row) → Rising i k rs → rowsAt i k rs ≡ rs
+  pub all-at : (rs : List Row) → Rising i k rs → rowsAt i k rs ≡ rs
   unfolding rowsAt
   all-at [] u = refl
-  all-at (r ∷ rs) u = rw (before-is i k r (u .0)) (ap (λ (x : List Row). r ∷ x) (all-at rs (lower (r .page .0) (suc (r .slot)) i k rs (down (u .0)) (u .1))))
-    where
-      down : Before i k r → (i < r .page .0) ⊎ ((i ≡ r .page .0) × (k ≤ suc (r .slot)))
-      down (inl l) = inl l
-      down (inr p) = inr (sym (p .0), omega arith)
+  all-at (r ∷ rs) u = rw (before-is i k r (u .0)) (ap (λ (x : List Row). r ∷ x) (all-at rs (lower (r .page .0) (suc (r .slot)) i k rs (down i k r (u .0)) (u .1))))
 
 abbrev headOr : Row → List Row → Row
 headOr d [] = d
@@ -154,15 +156,11 @@ module _ (i k : ℕ) (r : Row) (rest : List Row) where
       not-earlier (inr x) (inl y) = absurd (omega arith)
       not-earlier (inr x) (inr y) = absurd (omega arith)
 
-      down : Before i k q → (i < q .page .0) ⊎ ((i ≡ q .page .0) × (k ≤ suc (q .slot)))
-      down (inl l) = inl l
-      down (inr p) = inr (sym (p .0), omega arith)
-
       go : (t : Bool) → atOrAfter i k q ≡ t → (rowsAt i k rs ≡ r ∷ rest → rest ≡ rowsAt (r .page .0) (suc (r .slot)) rs) → consIf t q (rowsAt i k rs) ≡ r ∷ rest
           → rest ≡ rowsAt (r .page .0) (suc (r .slot)) (q ∷ rs)
       go true b f h =
           let z : q ≡ r = ap (headOr r) h in
-          let up : Rising i k rs = lower (q .page .0) (suc (q .slot)) i k rs (down (is-before i k q b)) (u .1) in
+          let up : Rising i k rs = lower (q .page .0) (suc (q .slot)) i k rs (down i k q (is-before i k q b)) (u .1) in
           sym (ap tailOf h) ∙ all-at i k rs up ∙ sym (all-at (r .page .0) (suc (r .slot)) rs (rw z at (u .1))) ∙ sym (past (not-itself z))
       go false b f h = f h ∙ sym (past (not-earlier (behind (q .page .0) (suc (q .slot)) rs (u .1) h)))
 
@@ -180,7 +178,7 @@ first-is i k (r ∷ rs) = go (atOrAfter i k r) (first-is i k rs)
     go true e = refl
     go false e = e
 
-abbrev rowOr : Row → NextRow → Row
+abbrev pub rowOr : Row → NextRow → Row
 rowOr d (Refused v) = d
 rowOr d (At r) = r
 rowOr d NoMore = d
@@ -193,61 +191,31 @@ head-none : (l : List Row) → OneOf (0 ∷ 2 ∷ []) (tagOf the-type (headRow l
 head-none [] o = refl
 head-none (r ∷ l) o = absurd (miss (0 ∷ 2 ∷ []) 1 tt o)
 
-module _ (s : List ℕ) (i k : ℕ) where
+module _ (shows : List ℕ → Bool) (s : List ℕ) (i k : ℕ) where
   -- a search meets a row, and goes on behind it
-  pub row-next : (r : Row) → firstAt i k (visibleRows s) ≡ At r → rowsAt i k (visibleRows s) ≡ r ∷ rowsAt (r .page .0) (r .slot + 1) (visibleRows s)
+  pub row-next : (r : Row) → firstAt i k (rowsOf shows s) ≡ At r → rowsAt i k (rowsOf shows s) ≡ r ∷ rowsAt (r .page .0) (r .slot + 1) (rowsOf shows s)
   row-next r e =
-      let h : rowsAt i k (visibleRows s) ≡ r ∷ tailOf (rowsAt i k (visibleRows s)) = head-at (rowsAt i k (visibleRows s)) r (sym (first-is i k (visibleRows s)) ∙ e) in
+      let h : rowsAt i k (rowsOf shows s) ≡ r ∷ tailOf (rowsAt i k (rowsOf shows s)) = head-at (rowsAt i k (rowsOf shows s)) r (sym (first-is i k (rowsOf shows s)) ∙ e) in
       let z : suc (r .slot) ≡ r .slot + 1 = omega arith in
-      h ∙ ap (λ (x : List Row). r ∷ x) (rw (← z) (goes-on i k r (tailOf (rowsAt i k (visibleRows s))) 0 0 (visibleRows s) (rising-pages s (pagesIn s) 0) h))
+      h ∙ ap (λ (x : List Row). r ∷ x) (rw (← z) (goes-on i k r (tailOf (rowsAt i k (rowsOf shows s))) 0 0 (rowsOf shows s) (rising-pages shows s (pagesIn s) 0) h))
 
   -- or meets none, as a `let .. else` finds it
-  pub row-none : (x : NextRow) → x ≡ firstAt i k (visibleRows s) → OneOf (0 ∷ 2 ∷ []) (tagOf the-type x) → rowsAt i k (visibleRows s) ≡ []
-  row-none x e o = head-none (rowsAt i k (visibleRows s)) (rw (e ∙ first-is i k (visibleRows s)) at o)
+  pub row-none : (x : NextRow) → x ≡ firstAt i k (rowsOf shows s) → OneOf (0 ∷ 2 ∷ []) (tagOf the-type x) → rowsAt i k (rowsOf shows s) ≡ []
+  row-none x e o = head-none (rowsAt i k (rowsOf shows s)) (rw (e ∙ first-is i k (rowsOf shows s)) at o)
 
--- ---- a row's slot is below 4,080
+-- ---- a property of all rows of a listing is one of a row that is met
 
-abbrev Low : List Row → Type 0
-Low [] = Unit
-Low (r ∷ rs) = (r .slot < 4080) × Low rs
-
-low-append : (xs ys : List Row) → Low xs → Low ys → Low (xs ++ ys)
-low-append [] ys u v = v
-low-append (r ∷ xs) ys u v = (u .0, low-append xs ys (u .1) v)
-
-low-slots : (i : ℕ) (p : List ℕ) (n k : ℕ) → k + n ≤ 4080 → Low (slotRows i p n k)
-unfolding slotRows
-low-slots i p zero k l = tt
-low-slots i p (suc n) k l = go (visible (slotAt p k)) (low-slots i p n (suc k) (omega arith))
-  where
-    go : (t : Bool) → Low (slotRows i p n (suc k)) → Low (consIf t (row i k p) (slotRows i p n (suc k)))
-    go true u = (omega arith, u)
-    go false u = u
-
-low-page : (i : ℕ) (p : List ℕ) → (typeOf p ≡ dataType → DataGood p) → Low (pageRows i p)
-unfolding pageRows
-low-page i p d = go (eqb (typeOf p) dataType) refl
-  where
-    go : (t : Bool) → eqb (typeOf p) dataType ≡ t → Low (pick t (slotRows i p (countOf p) 0) [])
-    go true e = let g = d (eqb-true _ _ e) in low-slots i p (countOf p) 0 (omega (arith, g .start, g .startEnd, g .end))
-    go false e = tt
-
-low-pages : (s : List ℕ) → Listable s → (n i : ℕ) → i + n ≡ pagesIn s → Low (rowsFrom s n i)
-unfolding rowsFrom
-low-pages s d zero i e = tt
-low-pages s d (suc n) i e = low-append (pageRows i (pageAt i s)) (rowsFrom s n (suc i)) (low-page i (pageAt i s) (d .at i (omega arith))) (low-pages s d n (suc i) (omega arith))
-
-low-first : (i k : ℕ) (r : Row) (rs : List Row) → Low rs → firstAt i k rs ≡ At r → r .slot < 4080
+each-first : (P : Row → Type 0) (i k : ℕ) (r : Row) (rs : List Row) → Each P rs → firstAt i k rs ≡ At r → P r
 unfolding firstAt
-low-first i k r [] u e = let z : _≡_ {A = ℕ} 0 1 = cc in absurd (omega arith)
-low-first i k r (q ∷ rs) u e = go (atOrAfter i k q) (low-first i k r rs (u .1)) e
+each-first P i k r [] u e = let z : _≡_ {A = ℕ} 0 1 = cc in absurd (omega arith)
+each-first P i k r (q ∷ rs) u e = go (atOrAfter i k q) (each-first P i k r rs (u .1)) e
   where
-    go : (t : Bool) → (firstAt i k rs ≡ At r → r .slot < 4080) → pick t (At q) (firstAt i k rs) ≡ At r → r .slot < 4080
+    go : (t : Bool) → (firstAt i k rs ≡ At r → P r) → pick t (At q) (firstAt i k rs) ≡ At r → P r
     go true f h = let z : q ≡ r = ap (rowOr r) h in rw (← z) (u .0)
     go false f h = f h
 
-pub slot-low : (s : List ℕ) → Listable s → (i k : ℕ) (r : Row) → firstAt i k (visibleRows s) ≡ At r → r .slot < 4080
-slot-low s d i k r e = low-first i k r (visibleRows s) (low-pages s d (pagesIn s) 0 (omega arith)) e
+pub row-stands : (shows : List ℕ → Bool) → shows [] ≡ false → (s : List ℕ) → Listable s → (i k : ℕ) (r : Row) → firstAt i k (rowsOf shows s) ≡ At r → Standing s r
+row-stands shows none s d i k r e = each-first (Standing s) i k r (rowsOf shows s) (rows-stand shows none s d) e
 
 -- ---- rows as numbers
 
@@ -269,9 +237,9 @@ row-stored d at r l =
     rw (a, b, c) (sets-eq (numbersOf r) d at l)
 
 -- from slot k₀ of page i₀ on some rows were given and stored as m numbers, and slot k of page i is where to go on
-pub record Given (s out₀ : List ℕ) (i₀ k₀ i k m : ℕ) (out : List ℕ) : Type 0 where
+pub record Given (shows : List ℕ → Bool) (s out₀ : List ℕ) (i₀ k₀ i k m : ℕ) (out : List ℕ) : Type 0 where
   pub done : List Row
-  pub goes : done ++ rowsAt i k (visibleRows s) ≡ rowsAt i₀ k₀ (visibleRows s)
+  pub goes : done ++ rowsAt i k (rowsOf shows s) ≡ rowsAt i₀ k₀ (rowsOf shows s)
   pub stored : out ≡ numbersOfAll done ++ drop m out₀
   pub many : m ≡ numbersPerRow * length done
   pub room : m ≤ length out₀
@@ -283,16 +251,16 @@ cut all done rest n e (inr p) =
     let z : all ≡ done = sym e ∙ ap (λ (x : List Row). done ++ x) (p .0) ∙ append-nil done in
     rw (z, p .0) (take-all n done (p .1), drop-of-length-le done (p .1))
 
-module _ (s out₀ : List ℕ) (i₀ k₀ : ℕ) where
-  pub given-none : Given s out₀ i₀ k₀ i₀ k₀ 0 out₀
+module _ (shows : List ℕ → Bool) (s out₀ : List ℕ) (i₀ k₀ : ℕ) where
+  pub given-none : Given shows s out₀ i₀ k₀ i₀ k₀ 0 out₀
   given-none = record { done = []; goes = refl; stored = refl; many = refl; room = omega arith }
 
-  module _ {i k m : ℕ} {out : List ℕ} (g : Given s out₀ i₀ k₀ i k m out) where
+  module _ {i k m : ℕ} {out : List ℕ} (g : Given shows s out₀ i₀ k₀ i k m out) where
     pub given-length : length out ≡ length out₀
     given-length = ap length (g .stored) ∙ length-append (numbersOfAll (g .done)) (drop m out₀) ∙ simp (length-numbers, length-drop) (omega (arith, g .many, g .room))
 
-    pub given-more : (r : Row) (new : List ℕ) → firstAt i k (visibleRows s) ≡ At r → m + numbersPerRow ≤ length out₀ → new ≡ paste out m (numbersOf r) numbersPerRow
-        → Given s out₀ i₀ k₀ (r .page .0) (r .slot + 1) (m + numbersPerRow) new
+    pub given-more : (r : Row) (new : List ℕ) → firstAt i k (rowsOf shows s) ≡ At r → m + numbersPerRow ≤ length out₀ → new ≡ paste out m (numbersOf r) numbersPerRow
+        → Given shows s out₀ i₀ k₀ (r .page .0) (r .slot + 1) (m + numbersPerRow) new
     given-more r new e l h =
         let front : length (numbersOfAll (g .done)) ≡ m = length-numbers (g .done) ∙ sym (g .many) in
         let t : take m out ≡ numbersOfAll (g .done) = ap (take m) (g .stored) ∙ take-at (numbersOfAll (g .done)) (drop m out₀) m front in
@@ -300,40 +268,40 @@ module _ (s out₀ : List ℕ) (i₀ k₀ : ℕ) where
         sym (drop-drop numbersPerRow m out) ∙ ap (λ (x : List ℕ). drop numbersPerRow (drop m x)) (g .stored) ∙ ap (drop numbersPerRow) (drop-at (numbersOfAll (g .done)) (drop m out₀) m front) ∙ drop-drop numbersPerRow m out₀ in
         record {
           done = g .done ++ (r ∷ []);
-          goes = append-assoc (g .done) (r ∷ []) (rowsAt (r .page .0) (r .slot + 1) (visibleRows s)) ∙ ap (λ (x : List Row). g .done ++ x) (sym (row-next s i k r e)) ∙ g .goes;
+          goes = append-assoc (g .done) (r ∷ []) (rowsAt (r .page .0) (r .slot + 1) (rowsOf shows s)) ∙ ap (λ (x : List Row). g .done ++ x) (sym (row-next shows s i k r e)) ∙ g .goes;
           stored = h ∙ rw (t, d, numbers-append (g .done) (r ∷ []));
           many = omega (arith, g .many, length-append (g .done) (r ∷ []));
           room = l;
         }
 
     -- what is given back in the end
-    answer : (rest : List Row) → rowsAt i k (visibleRows s) ≡ rest → (length (g .done) ≡ length out₀ / numbersPerRow) ⊎ ((rest ≡ []) × (length (g .done) ≤ length out₀ / numbersPerRow))
-        → (listed (m / numbersPerRow) (pagesIn s) rest ≡ listOf s i₀ k₀ (length out₀ / numbersPerRow)) × (out ≡ listAfter s i₀ k₀ out₀)
+    answer : (rest : List Row) → rowsAt i k (rowsOf shows s) ≡ rest → (length (g .done) ≡ length out₀ / numbersPerRow) ⊎ ((rest ≡ []) × (length (g .done) ≤ length out₀ / numbersPerRow))
+        → (listed (m / numbersPerRow) (pagesIn s) rest ≡ listOf s (rowsOf shows s) i₀ k₀ (length out₀ / numbersPerRow)) × (out ≡ listAfter (rowsOf shows s) i₀ k₀ out₀)
     unfolding listOf listAfter
     answer rest e c =
-        let p = cut (rowsAt i₀ k₀ (visibleRows s)) (g .done) rest (length out₀ / numbersPerRow) (ap (λ (x : List Row). g .done ++ x) (sym e) ∙ g .goes) c in
+        let p = cut (rowsAt i₀ k₀ (rowsOf shows s)) (g .done) rest (length out₀ / numbersPerRow) (ap (λ (x : List Row). g .done ++ x) (sym e) ∙ g .goes) c in
         let n : m / numbersPerRow ≡ length (g .done) = omega (arith, g .many) in
         (rw (p .0, p .1, n), rw (p .0) (g .stored ∙ ap (λ (x : ℕ). numbersOfAll (g .done) ++ drop x out₀) (g .many)))
 
-    pub given-end : rowsAt i k (visibleRows s) ≡ []
-        → (listed (m / numbersPerRow) (pagesIn s) [] ≡ listOf s i₀ k₀ (length out₀ / numbersPerRow)) × (out ≡ listAfter s i₀ k₀ out₀)
+    pub given-end : rowsAt i k (rowsOf shows s) ≡ []
+        → (listed (m / numbersPerRow) (pagesIn s) [] ≡ listOf s (rowsOf shows s) i₀ k₀ (length out₀ / numbersPerRow)) × (out ≡ listAfter (rowsOf shows s) i₀ k₀ out₀)
     given-end e = answer [] e (inr (refl, omega (arith, g .many, g .room)))
 
-    pub given-full : (r : Row) → firstAt i k (visibleRows s) ≡ At r → length out₀ < m + numbersPerRow
-        → (listed (m / numbersPerRow) (pagesIn s) (r ∷ []) ≡ listOf s i₀ k₀ (length out₀ / numbersPerRow)) × (out ≡ listAfter s i₀ k₀ out₀)
-    given-full r e l = answer (r ∷ rowsAt (r .page .0) (r .slot + 1) (visibleRows s)) (row-next s i k r e) (inl (omega (arith, g .many, g .room)))
+    pub given-full : (r : Row) → firstAt i k (rowsOf shows s) ≡ At r → length out₀ < m + numbersPerRow
+        → (listed (m / numbersPerRow) (pagesIn s) (r ∷ []) ≡ listOf s (rowsOf shows s) i₀ k₀ (length out₀ / numbersPerRow)) × (out ≡ listAfter (rowsOf shows s) i₀ k₀ out₀)
+    given-full r e l = answer (r ∷ rowsAt (r .page .0) (r .slot + 1) (rowsOf shows s)) (row-next shows s i k r e) (inl (omega (arith, g .many, g .room)))
 
 -- ---- the whole answer
 
-module _ (magic : ℕ) (s : List ℕ) (i k : ℕ) (out : List ℕ) (v : Verdict) (is : v ≡ verdictOf magic s) where
-  pub list-refused : (v .number ≡ 0 → ⊥) → (noList v ≡ rowList magic s i k (length out / numbersPerRow)) × (out ≡ rowsAfter magic s i k out)
+module _ (magic : ℕ) (s : List ℕ) (rs : List Row) (i k : ℕ) (out : List ℕ) (v : Verdict) (is : v ≡ verdictOf magic s) where
+  pub list-refused : (v .number ≡ 0 → ⊥) → (noList v ≡ rowList magic s rs i k (length out / numbersPerRow)) × (out ≡ rowsAfter magic s rs i k out)
   unfolding rowList rowsAfter
   list-refused h =
       let t : eqb (verdictOf magic s .number) 0 ≡ false = rw (← is) (ne-eqb (v .number) 0 h) in
       (sym (rw (t, ← is)), sym (rw t))
 
-  pub list-taken : v .number ≡ 0 → (r : RowList) (new : List ℕ) → r ≡ listOf s i k (length out / numbersPerRow) → new ≡ listAfter s i k out
-      → (r ≡ rowList magic s i k (length out / numbersPerRow)) × (new ≡ rowsAfter magic s i k out)
+  pub list-taken : v .number ≡ 0 → (r : RowList) (new : List ℕ) → r ≡ listOf s rs i k (length out / numbersPerRow) → new ≡ listAfter rs i k out
+      → (r ≡ rowList magic s rs i k (length out / numbersPerRow)) × (new ≡ rowsAfter magic s rs i k out)
   unfolding rowList rowsAfter
   list-taken h r new e f =
       let t : eqb (verdictOf magic s .number) 0 ≡ true = rw (← is) (eq-eqb (v .number) 0 h) in

@@ -9,7 +9,7 @@ ghost use Rattle.page.specs.Layout.{pageBytes, reservedBytes, bodyBytes,
 ghost use Rattle.page.specs.Fault.{dataFault, faultOf, slotIn, slotRule, faultVerdict, lateOf, pageVerdict, firstBad, sizeWrong, verdictFrom};
 ghost use Rattle.endian.specs.Pick.{pick};
 ghost use Rattle.refusals.specs.Verdict.{verdict};
-ghost use Rattle.page.specs.Rows.{Listable, visibleRows, firstAt};
+ghost use Rattle.page.specs.Rows.{Listable, shown, rowsOf, visibleRows, firstAt};
 ghost use Rattle.page.specs.FreeMap.{freeBit, onesOf};
 ghost use Rattle.page.specs.Writer.{withSlot, headOf, sealed};
 use crate::BODY_BYTES;
@@ -281,10 +281,10 @@ pub fn verify_from(t: &Tables, magic: u64, pages: &[u8], first: usize) -> Verdic
     first_bad(t, magic, false, 0, pages, first)
 }
 
-// The first visible row at or after a slot of the page at an index, on pages that were verified. A search goes on behind the row that it gives.
-pub fn next_row(pages: &[u8], index: usize, slot: usize) -> NextRow
+// The first row at or after a slot of the page at an index that a listing shows, on pages that were verified. A search goes on behind the row that it gives.
+pub fn next_shown(pages: &[u8], live: bool, index: usize, slot: usize) -> NextRow
     requires { ⌜ Listable (now pages) ⌝ }
-    ensures { λ r. ⌜ r ≡ firstAt index slot (visibleRows (now (pages .entry))) ⌝ }
+    ensures { λ r. ⌜ r ≡ firstAt index slot (rowsOf (shown live) (now (pages .entry))) ⌝ }
 {
     let n = pages.len() / PAGE_BYTES;
     let mut i = index;
@@ -292,7 +292,7 @@ pub fn next_row(pages: &[u8], index: usize, slot: usize) -> NextRow
     while i < n {
         let a = i * PAGE_BYTES;
         let e = a + PAGE_BYTES;
-        let r = row_on(&pages[a..e], i, k);
+        let r = row_on(&pages[a..e], live, i, k);
         let NextRow::NoMore = r else {
             return r;
         };
@@ -300,6 +300,14 @@ pub fn next_row(pages: &[u8], index: usize, slot: usize) -> NextRow
         k = 0;
     }
     NextRow::NoMore
+}
+
+// The first visible row of these.
+pub fn next_row(pages: &[u8], index: usize, slot: usize) -> NextRow
+    requires { ⌜ Listable (now pages) ⌝ }
+    ensures { λ r. ⌜ r ≡ firstAt index slot (visibleRows (now (pages .entry))) ⌝ }
+{
+    next_shown(pages, true, index, slot)
 }
 
 // Puts tuple into the working page as slot k: its four bytes, and the tuple so that it ends at top of the body. Gives back where it starts.

@@ -1,9 +1,9 @@
-// The page format: the first fault of a page, slots, visible rows, the map of free pages, and the packed page.
+// The page format: the first fault of a page, slots, visible and cancelled rows, the map of free pages, and the packed page.
 ghost use mathlib.Core.Path.{_≡_};
 ghost use Rattle.page.specs.Fault.{verdictFrom, verdictOf};
 ghost use Prim.Native.Nat.{_/_};
 ghost use lib.ListN.{length};
-ghost use Rattle.page.specs.Rows.{nextRow, numbersPerRow, rowList, rowsAfter};
+ghost use Rattle.page.specs.Rows.{shown, rowsOf, visibleRows, cancelledRows, nextRow, numbersPerRow, rowList, rowsAfter};
 ghost use Rattle.page.specs.FreeMap.{mapVerdict, freeCount, mapAfter};
 use endian::Lsn;
 use endian::PageNumber;
@@ -52,8 +52,10 @@ pub const PAGE_LIMIT: usize = 4096;
 // A body has room for no more slots.
 pub const SLOT_LIMIT: usize = 4080;
 
-// The bytes of a row header, the shortest tuple; and where in a page the deleted byte of a tuple at the body's start stands.
+// The bytes of a row header, the shortest tuple; and where in a page the xmax and the deleted byte of a tuple at the body's start stand.
 pub const ROW_HEAD_BYTES: usize = 24;
+
+const XMAX_AT: usize = HEAD_BYTES + 8;
 
 const DELETED_AT: usize = HEAD_BYTES + 16;
 
@@ -84,7 +86,7 @@ pub struct PageHead {
     pub lsn: Lsn,
 }
 
-// A visible row: its tuple's length, and where in the page area the tuple starts.
+// A row of a listing: its tuple's length, and where in the page area the tuple starts.
 pub struct Row {
     pub page: PageNumber,
     pub slot: usize,
@@ -139,18 +141,17 @@ pub fn next_visible(magic: u64, pages: &[u8], page: PageNumber, slot: usize) -> 
     inner::next_row(pages, page.0 as usize, slot)
 }
 
-// Fills the lent numbers with the visible rows at or after a slot of a page, four numbers a row: page, slot, length, offset in the page area; verifies the pages once. Gives
-// back how many rows there are, and the place of the first that found no room, or the count of pages and 0 where all are given. Refuses as `verify` does, which leaves the
-// numbers as they are.
-pub fn list_visible(
+// Lists live rows, which are the visible ones, or cancelled ones.
+fn list_rows(
     magic: u64,
     pages: &[u8],
+    live: bool,
     page: PageNumber,
     slot: usize,
     out: &mut [u64],
 ) -> RowList
-    ensures { λ r. ⌜ r ≡ rowList magic (now (pages .entry)) (page .0) slot (length (now (out .entry)) / numbersPerRow) ⌝ }
-    ensures { λ _. ⌜ now (out .exit) ≡ rowsAfter magic (now (pages .entry)) (page .0) slot (now (out .entry)) ⌝ }
+    ensures { λ r. ⌜ r ≡ rowList magic (now (pages .entry)) (rowsOf (shown live) (now (pages .entry))) (page .0) slot (length (now (out .entry)) / numbersPerRow) ⌝ }
+    ensures { λ _. ⌜ now (out .exit) ≡ rowsAfter magic (now (pages .entry)) (rowsOf (shown live) (now (pages .entry))) (page .0) slot (now (out .entry)) ⌝ }
 {
     let v = verify(magic, pages);
     if v.number != 0 {
@@ -161,7 +162,37 @@ pub fn list_visible(
             slot: 0,
         };
     }
-    list::fill(pages, page.0 as usize, slot, out)
+    list::fill(pages, live, page.0 as usize, slot, out)
+}
+
+// Fills the lent numbers with the visible rows at or after a slot of a page, four numbers a row: page, slot, length, offset in the page area; verifies the pages once. Gives
+// back how many rows there are, and the place of the first that found no room, or the count of pages and 0 where all are given. Refuses as `verify` does, which leaves the
+// numbers as they are.
+pub fn list_visible(
+    magic: u64,
+    pages: &[u8],
+    page: PageNumber,
+    slot: usize,
+    out: &mut [u64],
+) -> RowList
+    ensures { λ r. ⌜ r ≡ rowList magic (now (pages .entry)) (visibleRows (now (pages .entry))) (page .0) slot (length (now (out .entry)) / numbersPerRow) ⌝ }
+    ensures { λ _. ⌜ now (out .exit) ≡ rowsAfter magic (now (pages .entry)) (visibleRows (now (pages .entry))) (page .0) slot (now (out .entry)) ⌝ }
+{
+    list_rows(magic, pages, true, page, slot, out)
+}
+
+// The same of the cancelled rows: those that `list_visible` passes over.
+pub fn list_cancelled(
+    magic: u64,
+    pages: &[u8],
+    page: PageNumber,
+    slot: usize,
+    out: &mut [u64],
+) -> RowList
+    ensures { λ r. ⌜ r ≡ rowList magic (now (pages .entry)) (cancelledRows (now (pages .entry))) (page .0) slot (length (now (out .entry)) / numbersPerRow) ⌝ }
+    ensures { λ _. ⌜ now (out .exit) ≡ rowsAfter magic (now (pages .entry)) (cancelledRows (now (pages .entry))) (page .0) slot (now (out .entry)) ⌝ }
+{
+    list_rows(magic, pages, false, page, slot, out)
 }
 
 // Writes the map of free pages: bit i, lowest bit first, is 1 exactly if page i is free; needed bytes whole, spare bits 0. Refuses as `verify` does,

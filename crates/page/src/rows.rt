@@ -1,39 +1,68 @@
-// The first visible row of a page at or after a slot, on a page that is good.
+// The first visible, or the first cancelled, row of a page at or after a slot, on a page that is good.
 ghost use mathlib.Core.Path.{_≡_};
-ghost use Prim.Native.Nat.{_<_, _^_};
+ghost use Prim.Native.Nat.{_^_, _<_};
 ghost use lib.ListN.{length};
 ghost use Rattle.endian.specs.Pick.{pick};
-ghost use Rattle.page.specs.Layout.{pageBytes, slotLimit, dataType, typeOf, countOf, slotAt};
+ghost use Rattle.page.specs.Layout.{pageBytes, slotLimit, dataType, typeOf, bodyOf, countOf, slotLen, slotAt};
 ghost use Rattle.page.specs.Good.{DataGood};
-ghost use Rattle.page.specs.Rows.{visible, row, slotRows, pageRows, firstAt};
+ghost use Rattle.page.specs.Rows.{visible, shown, row, slotRows, pageRows, firstAt};
 use crate::DATA_TYPE;
 use crate::DELETED_AT;
 use crate::HEAD_BYTES;
 use crate::NextRow;
 use crate::PAGE_BYTES;
 use crate::Row;
+use crate::XMAX_AT;
 use crate::inner::count;
 use crate::inner::kind;
 use crate::inner::slot_len;
 use crate::inner::slot_off;
 use endian::PageNumber;
+use endian::inner::u64_at;
 
-// The length of the tuple of slot k where it is a visible row, else 0.
-fn visible_len(page: &[u8], k: usize) -> usize
+// Whether the tuple of slot k, which has one, is a visible row.
+fn is_visible(page: &[u8], k: usize) -> bool
+    requires { ⌜ length (now page) ≡ pageBytes ⌝ }
+    requires { ⌜ DataGood (now page) ⌝ }
+    requires { ⌜ (k < countOf (now page)) × (0 < slotLen (bodyOf (now page)) k) ⌝ }
+    ensures { λ r. ⌜ r ≡ visible (slotAt (now (page .entry)) k) ⌝ }
+{
+    let o = slot_off(page, k);
+    if page[DELETED_AT + o] != 0 {
+        return false;
+    }
+    u64_at(page, XMAX_AT + o) == 0
+}
+
+// Whether a listing shows the tuple of slot k, which has one.
+fn is_shown(page: &[u8], live: bool, k: usize) -> bool
+    requires { ⌜ length (now page) ≡ pageBytes ⌝ }
+    requires { ⌜ DataGood (now page) ⌝ }
+    requires { ⌜ (k < countOf (now page)) × (0 < slotLen (bodyOf (now page)) k) ⌝ }
+    ensures { λ r. ⌜ r ≡ shown live (slotAt (now (page .entry)) k) ⌝ }
+{
+    let v = is_visible(page, k);
+    if live {
+        return v;
+    }
+    !v
+}
+
+// The length of the tuple of slot k where a listing shows it, else 0.
+fn shown_len(page: &[u8], live: bool, k: usize) -> usize
     requires { ⌜ length (now page) ≡ pageBytes ⌝ }
     requires { ⌜ DataGood (now page) ⌝ }
     requires { ⌜ k < countOf (now page) ⌝ }
-    ensures { λ r. ⌜ r ≡ pick (visible (slotAt (now (page .entry)) k)) (length (slotAt (now (page .entry)) k)) 0 ⌝ }
+    ensures { λ r. ⌜ r ≡ pick (shown live (slotAt (now (page .entry)) k)) (length (slotAt (now (page .entry)) k)) 0 ⌝ }
 {
     let n = slot_len(page, k);
     if n == 0 {
         return 0;
     }
-    let o = slot_off(page, k);
-    if page[DELETED_AT + o] != 0 {
-        return 0;
+    if is_shown(page, live, k) {
+        return n;
     }
-    n
+    0
 }
 
 // The row in slot k of the page at an index, whose tuple has so many bytes.
@@ -52,17 +81,17 @@ fn row_in(page: &[u8], index: usize, k: usize, len: usize) -> Row
     }
 }
 
-// The first visible row of a Data page at or after a slot.
-fn row_of(page: &[u8], index: usize, slot: usize) -> NextRow
+// The first row of a Data page at or after a slot that a listing shows.
+fn row_of(page: &[u8], live: bool, index: usize, slot: usize) -> NextRow
     requires { ⌜ length (now page) ≡ pageBytes ⌝ }
     requires { ⌜ DataGood (now page) ⌝ }
     requires { ⌜ index < 2 ^ 49 ⌝ }
-    ensures { λ r. ⌜ r ≡ firstAt index slot (slotRows index (now (page .entry)) (countOf (now (page .entry))) 0) ⌝ }
+    ensures { λ r. ⌜ r ≡ firstAt index slot (slotRows (shown live) index (now (page .entry)) (countOf (now (page .entry))) 0) ⌝ }
 {
     let n = count(page);
     let mut k = slot;
     while k < n {
-        let len = visible_len(page, k);
+        let len = shown_len(page, live, k);
         if len != 0 {
             return NextRow::At(row_in(page, index, k, len));
         }
@@ -71,15 +100,15 @@ fn row_of(page: &[u8], index: usize, slot: usize) -> NextRow
     NextRow::NoMore
 }
 
-// The first visible row of a page at or after a slot.
-pub fn row_on(page: &[u8], index: usize, slot: usize) -> NextRow
+// The first row of a page at or after a slot that a listing shows.
+pub fn row_on(page: &[u8], live: bool, index: usize, slot: usize) -> NextRow
     requires { ⌜ length (now page) ≡ pageBytes ⌝ }
     requires { ⌜ (typeOf (now page) ≡ dataType → DataGood (now page)) ⌝ }
     requires { ⌜ index < 2 ^ 49 ⌝ }
-    ensures { λ r. ⌜ r ≡ firstAt index slot (pageRows index (now (page .entry))) ⌝ }
+    ensures { λ r. ⌜ r ≡ firstAt index slot (pageRows (shown live) index (now (page .entry))) ⌝ }
 {
     if kind(page) != DATA_TYPE {
         return NextRow::NoMore;
     }
-    row_of(page, index, slot)
+    row_of(page, live, index, slot)
 }

@@ -1,4 +1,4 @@
-// The page cases: a page with each kind of fault, which of several faults and bad pages is given, visible rows one by one and many at a time, and a free map.
+// The page cases: a page with each kind of fault, which of several faults and bad pages is given, visible rows one by one and many at a time, cancelled rows, and a free map.
 ghost use mathlib.Core.Path.{_≡_};
 ghost use lib.ListN.{length};
 use endian::PageNumber;
@@ -241,6 +241,22 @@ fn rows_page() -> [u8; 16384] {
     summed(with(with(with(q, 76, 16226), 78, 40), 16376, 1))
 }
 
+// Four rows of 24 bytes: neither deleted nor with an xmax, though its xmin and its pad bytes are not 0; with an xmax of 2 to the 56; deleted; both.
+fn states_page() -> [u8; 16384] {
+    let p = with(with(headed(1, 0, 4, 16, 16224), 64, 16296), 66, 24);
+    let q = with(with(with(with(p, 68, 16272), 70, 24), 72, 16248), 74, 24);
+    let r = with(
+        with(with(with(q, 76, 16224), 78, 24), 16366, 256),
+        16377,
+        257,
+    );
+    summed(with(
+        with(with(with(r, 16350, 256), 16328, 1), 16296, 7),
+        16304,
+        1,
+    ))
+}
+
 // One row of 100 bytes.
 fn row_page() -> [u8; 16384] {
     summed(with(with(headed(1, 2, 1, 4, 16220), 64, 16220), 66, 100))
@@ -293,10 +309,10 @@ fn show_nine(s: &[u64]) {
     word(b"\n");
 }
 
-fn show_answer(i: u64, k: usize, l: RowList) {
+fn show_answer(name: &[u8], i: u64, k: usize, l: RowList) {
     let v = l.verdict;
     let next = l.page;
-    number(b"list from ", i);
+    number(name, i);
     number(b", ", k as u64);
     number(b": ", v.number);
     number(b" at ", v.place);
@@ -309,7 +325,14 @@ fn show_answer(i: u64, k: usize, l: RowList) {
 // What a listing gives back, and the numbers that it was lent.
 fn show_list(pages: &[u8], i: u64, k: usize, rows: &mut [u64]) {
     let l = page::list_visible(MAGIC, pages, PageNumber(i), k, rows);
-    show_answer(i, k, l);
+    show_answer(b"list from ", i, k, l);
+    show_nine(rows);
+}
+
+// The same of the cancelled rows.
+fn show_cancelled(pages: &[u8], i: u64, k: usize, rows: &mut [u64]) {
+    let l = page::list_cancelled(MAGIC, pages, PageNumber(i), k, rows);
+    show_answer(b"cancelled from ", i, k, l);
     show_nine(rows);
 }
 
@@ -352,6 +375,24 @@ fn list_cases(a: &[u8])
     show_list(&a[16384..], 0, 0, &mut [9u64; 4]);
 }
 
+// Of the four, the first alone is visible.
+fn state_cases(p: &[u8]) {
+    show_row(p, 0, 0);
+    show_row(p, 0, 1);
+    show_list(p, 0, 0, &mut [9u64; 5]);
+    show_cancelled(p, 0, 0, &mut [9u64; 8]);
+    show_cancelled(p, 0, 3, &mut [9u64; 8]);
+}
+
+fn cancelled_cases(a: &[u8])
+    requires { ⌜ length (now a) ≡ 49152 ⌝ }
+{
+    show_cancelled(a, 0, 0, &mut [9u64; 9]);
+    show_cancelled(a, 0, 1, &mut [9u64; 4]);
+    show_cancelled(a, 0, 0, &mut [9u64; 3]);
+    show_cancelled(&a[16384..], 0, 0, &mut [9u64; 4]);
+}
+
 fn map_cases(a: &[u8])
     requires { ⌜ length (now a) ≡ 49152 ⌝ }
 {
@@ -371,5 +412,7 @@ fn main() {
     let a = area();
     row_cases(&a);
     list_cases(&a);
+    state_cases(&states_page());
+    cancelled_cases(&a);
     map_cases(&a);
 }

@@ -76,3 +76,23 @@ pageChecksum = 18
 -- broken slot rule of a Data page
 abbrev pub pageSlots : ℕ
 pageSlots = 19
+
+-- catalog payload that ends early
+abbrev pub tableRowEndsEarly : ℕ
+tableRowEndsEarly = 34
+
+-- 2 to 8 or more than 9 bytes after the names of a catalog payload
+abbrev pub tableRowForm : ℕ
+tableRowForm = 35
+
+-- layout byte other than 0 and 1
+abbrev pub tableRowLayout : ℕ
+tableRowLayout = 36
+
+-- name over 255 bytes, or an area too short for a catalog payload
+abbrev pub tableRowNoRoom : ℕ
+tableRowNoRoom = 37
+
+-- newest form of a catalog payload, for an older reader
+abbrev pub tableRowNewer : ℕ
+tableRowNewer = 38

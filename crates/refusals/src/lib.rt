@@ -37,6 +37,16 @@ pub const PAGE_CHECKSUM: u64 = 18;
 
 pub const PAGE_SLOTS: u64 = 19;
 
+pub const TABLE_ROW_ENDS_EARLY: u64 = 34;
+
+pub const TABLE_ROW_FORM: u64 = 35;
+
+pub const TABLE_ROW_LAYOUT: u64 = 36;
+
+pub const TABLE_ROW_NO_ROOM: u64 = 37;
+
+pub const TABLE_ROW_NEWER: u64 = 38;
+
 // A refusal's number and place; number 0 is none.
 pub struct Verdict {
     pub number: u64,

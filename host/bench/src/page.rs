@@ -1,6 +1,6 @@
 //! Verification of 4,096 pages of 80 and of 560 rows, beside the checksum alone on the same bytes, with tuples in packed,
-//! falling and shuffled order; the listing of all rows through the C interface beside one verification; and every page
-//! found bad, one after the other.
+//! falling and shuffled order; the listing of all rows and the search for a table through the C interface beside one
+//! verification; and every page found bad, one after the other.
 use bench::best;
 use library::refusal::PAGE_SLOTS;
 use std::hint::black_box;
@@ -20,10 +20,15 @@ const PAGES: usize = 4_096;
 const ORDINARY: (usize, u64) = (80, 177);
 const MANY: (usize, u64) = (560, 2);
 
-/// What the times of a verification in falling order, in terms of packed order, and of a listing and of finding every
-/// page torn, in terms of a verification, should stay under.
+/// The bytes of the shortest tuple that names a table, and how many of them fill a page.
+const TABLE_BYTES: usize = 38;
+const TABLE_ROWS: usize = BODY / (TABLE_BYTES + 4);
+
+/// What the times of a verification in falling order, in terms of packed order, and of a listing, of a search for a
+/// table and of finding every page torn, in terms of a verification, should stay under.
 const FALLING_BOUND: f64 = 1.5;
 const LISTING_BOUND: f64 = 2.0;
+const SEARCH_BOUND: f64 = 5.0;
 const TORN_BOUND: f64 = 5.0;
 
 /// The checksums of all whole pieces, mixed.
@@ -86,15 +91,36 @@ fn page(index: usize, slots: &[usize], lengths: u64, numbers: &mut Numbers) -> V
         p[at..at + 2].copy_from_slice(&(top as u16).to_le_bytes());
         p[at + 2..at + 4].copy_from_slice(&(n as u16).to_le_bytes());
     }
+    seal(&mut p, index, slots.len(), top);
+    p
+}
+
+/// Writes the header of a Data page over its body of so many slots, whose tuples start at top.
+fn seal(p: &mut [u8], index: usize, count: usize, top: usize) {
     p[0..8].copy_from_slice(&MAGIC.to_le_bytes());
     p[8] = 1;
-    p[10..12].copy_from_slice(&(slots.len() as u16).to_le_bytes());
+    p[10..12].copy_from_slice(&(count as u16).to_le_bytes());
     p[16..24].copy_from_slice(&(index as u64).to_le_bytes());
-    p[32..34].copy_from_slice(&(4 * slots.len() as u16).to_le_bytes());
+    p[32..34].copy_from_slice(&(4 * count as u16).to_le_bytes());
     p[34..36].copy_from_slice(&(top as u16).to_le_bytes());
     let crc = checksums(&p[HEAD..], BODY);
     p[12..16].copy_from_slice(&crc.to_le_bytes());
-    p
+}
+
+/// Full pages of the shortest rows that name a table: 14 zero bytes are table 0 with two empty names.
+fn table_area() -> Vec<u8> {
+    let mut pages = Vec::with_capacity(PAGES * PAGE);
+    for index in 0..PAGES {
+        let mut p = vec![0u8; PAGE];
+        for slot in 0..TABLE_ROWS {
+            let (at, top) = (HEAD + 4 * slot, BODY - (slot + 1) * TABLE_BYTES);
+            p[at..at + 2].copy_from_slice(&(top as u16).to_le_bytes());
+            p[at + 2..at + 4].copy_from_slice(&(TABLE_BYTES as u16).to_le_bytes());
+        }
+        seal(&mut p, index, TABLE_ROWS, BODY - TABLE_ROWS * TABLE_BYTES);
+        pages.extend(p);
+    }
+    pages
 }
 
 fn area((rows, lengths): (usize, u64), order: Order) -> Vec<u8> {
@@ -148,6 +174,23 @@ fn listing() {
         l * 1e3,
         v * 1e3,
         bound(l / v, LISTING_BOUND)
+    );
+}
+
+/// A table that no row names, looked for among as many rows as there can be, beside one verification.
+fn searching() {
+    let pages = table_area();
+    let v = best(5, || library::verify(MAGIC, black_box(&pages)).number);
+    let f = best(5, || library::table_find(MAGIC, black_box(&pages), 1).found);
+    let found = library::table_find(MAGIC, &pages, 1);
+    assert_eq!((found.number, found.found), (0, 0));
+    assert_eq!(library::table_find(MAGIC, &pages, 0).found, 1);
+    println!(
+        "search for a table among {} rows of others: {:.2} ms, one verification {:.2} ms: {}",
+        PAGES * TABLE_ROWS,
+        f * 1e3,
+        v * 1e3,
+        bound(f / v, SEARCH_BOUND)
     );
 }
 
@@ -212,5 +255,6 @@ fn main() {
         );
     }
     listing();
+    searching();
     every_page_bad();
 }

@@ -1,4 +1,4 @@
-//! What is read off the pages alone: verification, visible rows and the free map.
+//! What is read off the pages alone: verification, visible and cancelled rows and the free map.
 
 use generate::Case;
 use library::refusal::{PAGE_CHECKSUM, PAGE_ID, PAGE_MAGIC_OR_TYPE, PAGE_SLOTS};
@@ -148,6 +148,19 @@ fn visible_rows(subject: &mut Subject, seen: &mut Seen) {
     }
 }
 
+/// A listing of the library, and the same of the second program.
+type List<Answer> = fn(u64, &[u8], u64, u16, &mut [u64]) -> Answer;
+type Lists = (&'static str, List<library::Listing>, List<oracle::Listing>);
+
+const LISTS: [Lists; 2] = [
+    ("list_visible", library::list_visible, oracle::list_visible),
+    (
+        "list_cancelled",
+        library::list_cancelled,
+        oracle::list_cancelled,
+    ),
+];
+
 /// Listings from the asked place and from the first row on, into numbers for a few rows, which are gone through to the
 /// end or for some steps.
 fn listings(subject: &mut Subject, seen: &mut Seen) {
@@ -158,39 +171,61 @@ fn listings(subject: &mut Subject, seen: &mut Seen) {
         (true, _) => 2,
         (false, _) => 1,
     };
-    for start in [(case.page, case.slot), (0, 0)] {
-        let mut from = start;
-        for _ in 0..steps {
-            let before = vec![ROW_MARK; length];
-            let mut lent = Lent::new(&before, 0, ROW_EDGE);
-            let library =
-                library::list_visible(case.magic, &case.pages, from.0, from.1, lent.items());
-            let (left, edges_kept) = lent.taken_back();
-            let mut expected = before;
-            let oracle = twin::listing(oracle::list_visible(
-                case.magic,
-                &case.pages,
-                from.0,
-                from.1,
-                &mut expected,
-            ));
-            seen.answers(
-                "list_visible",
-                library.number,
-                format_args!("from page {} slot {} into {length} numbers", from.0, from.1),
-                &library,
-                &oracle,
-            );
-            seen.items(format_args!("{length} numbers of rows"), &left, &expected);
-            seen.must(edges_kept, || {
-                format!("list_visible wrote outside of {length} numbers")
-            });
-            if library.count == 0 || library.page == (case.pages.len() / PAGE_BYTES) as u64 {
-                break;
+    for lists in LISTS {
+        for start in [(case.page, case.slot), (0, 0)] {
+            let mut from = start;
+            for _ in 0..steps {
+                let listing = listing(case, lists, from, length, seen);
+                let all = listing.page == (case.pages.len() / PAGE_BYTES) as u64;
+                if listing.count == 0 || all {
+                    break;
+                }
+                seen.event("listing that goes on");
+                from = (listing.page, listing.slot as u16);
             }
-            seen.event("listing that goes on");
-            from = (library.page, library.slot as u16);
         }
+    }
+}
+
+/// One listing into so many numbers.
+fn listing(
+    case: &Case,
+    (name, library, oracle): Lists,
+    (page, slot): (u64, u16),
+    length: usize,
+    seen: &mut Seen,
+) -> library::Listing {
+    let before = vec![ROW_MARK; length];
+    let mut lent = Lent::new(&before, 0, ROW_EDGE);
+    let given = library(case.magic, &case.pages, page, slot, lent.items());
+    let (left, edges_kept) = lent.taken_back();
+    let mut expected = before;
+    let other = twin::listing(oracle(case.magic, &case.pages, page, slot, &mut expected));
+    seen.answers(
+        name,
+        given.number,
+        format_args!("from page {page} slot {slot} into {length} numbers"),
+        &given,
+        &other,
+    );
+    seen.items(format_args!("{length} numbers of rows"), &left, &expected);
+    seen.must(edges_kept, || {
+        format!("{name} wrote outside of {length} numbers")
+    });
+    for row in library::listed(&left).take(given.count as usize) {
+        seen.event(state(case, &row));
+    }
+    given
+}
+
+/// What the header of a row that was listed says.
+fn state(case: &Case, row: &library::Listed) -> &'static str {
+    let tuple = &case.pages[row.offset as usize..][..row.length as usize];
+    match (tuple[8..16] != [0; 8], tuple[16] != 0) {
+        (false, false) => "row with neither xmax nor deleted byte",
+        (true, false) => "row with xmax and deleted byte 0",
+        (false, true) => "row with xmax 0 and deleted byte",
+        (true, true) => "row with xmax and deleted byte",
     }
 }
 

@@ -69,6 +69,29 @@ pub fn free_map(of: oracle::FreeMap) -> library::FreeMap {
     }
 }
 
+pub fn table(of: oracle::Table) -> library::Table {
+    library::Table {
+        number: of.number,
+        place: of.place,
+        table: of.table,
+        root: of.root,
+        schema_offset: of.schema_offset,
+        schema_length: of.schema_length,
+        name_offset: of.name_offset,
+        name_length: of.name_length,
+        layout: of.layout,
+        version: of.version,
+    }
+}
+
+pub fn written(of: oracle::Written) -> library::Written {
+    library::Written {
+        number: of.number,
+        place: of.place,
+        length: of.length,
+    }
+}
+
 /// A step that found an entry, with the place it leads to.
 fn entry(next: u64, of: oracle::EntryFields) -> library::Step {
     library::Step {

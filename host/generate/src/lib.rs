@@ -2,6 +2,7 @@
 //! histories, mutations that aim at every refusal, and plain nonsense.
 
 mod case;
+mod catalog;
 mod draft;
 mod entry;
 mod history;
@@ -18,6 +19,7 @@ mod style;
 mod wild;
 
 pub use case::{case, mutated_by, Case, Earlier, Honest};
+pub use catalog::{catalog, catalog_id, table_payload, Catalog, CatalogRow, TableParts};
 pub use draft::{Draft, Standing};
 pub use entry::{log_header, Entry};
 pub use entry::{BEGIN, CHECKPOINT, COMMIT, DELETE, INSERT, ROLLBACK, UPDATE};

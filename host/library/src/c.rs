@@ -1,5 +1,18 @@
 //! The functions of include/lumbraquay.h.
 
+/// A listing of rows.
+pub type List = unsafe extern "C" fn(
+    magic: u64,
+    pages: *const u8,
+    len: usize,
+    page: u64,
+    slot: u16,
+    rows: *mut u64,
+    rows_len: usize,
+    out: *mut u64,
+    out_len: usize,
+);
+
 extern "C" {
     pub fn lq_version() -> u32;
 
@@ -70,12 +83,52 @@ extern "C" {
         out_len: usize,
     );
 
+    pub fn lq_list_cancelled(
+        magic: u64,
+        pages: *const u8,
+        len: usize,
+        page: u64,
+        slot: u16,
+        rows: *mut u64,
+        rows_len: usize,
+        out: *mut u64,
+        out_len: usize,
+    );
+
     pub fn lq_free_map(
         magic: u64,
         pages: *const u8,
         len: usize,
         map: *mut u8,
         map_len: usize,
+        out: *mut u64,
+        out_len: usize,
+    );
+
+    pub fn lq_table_read(payload: *const u8, len: usize, out: *mut u64, out_len: usize);
+
+    pub fn lq_table_read_older(payload: *const u8, len: usize, out: *mut u64, out_len: usize);
+
+    pub fn lq_table_write(
+        table: u32,
+        root: u64,
+        schema: *const u8,
+        schema_len: usize,
+        name: *const u8,
+        name_len: usize,
+        layout: u8,
+        version: u64,
+        area: *mut u8,
+        area_len: usize,
+        out: *mut u64,
+        out_len: usize,
+    );
+
+    pub fn lq_table_find(
+        magic: u64,
+        pages: *const u8,
+        len: usize,
+        table: u32,
         out: *mut u64,
         out_len: usize,
     );

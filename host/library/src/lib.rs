@@ -44,6 +44,13 @@ pub const FROM_NOWHERE: u64 = 0;
 pub const FROM_LOG: u64 = 1;
 pub const FROM_PAGES: u64 = 2;
 
+/// Layouts of a table.
+pub const HEAP: u64 = 0;
+pub const CLUSTERED: u64 = 1;
+
+/// An area of so many bytes has room for every table row.
+pub const TABLE_LIMIT_BYTES: usize = 533;
+
 /// Declares a struct of numbers that is read off a C array in the order of its fields.
 macro_rules! numbers {
     ($(#[$doc:meta])* $name:ident: $count:literal { $($field:ident),+ }) => {
@@ -112,6 +119,18 @@ numbers! {
 }
 
 numbers! {
+    /// A table's row as it was read; the names are parts of the payload.
+    Table: 10 {
+        number, place, table, root, schema_offset, schema_length, name_offset, name_length, layout, version
+    }
+}
+
+numbers! {
+    /// How many bytes were written.
+    Written: 3 { number, place, length }
+}
+
+numbers! {
     /// What a step over the log finds. Where that is no entry, all after `next` are 0, and `next` is the place it
     /// started from.
     Step: 11 {
@@ -130,7 +149,7 @@ macro_rules! verdicts {
     };
 }
 
-verdicts! { Answer Row Visible Listing FreeMap }
+verdicts! { Answer Row Visible Listing FreeMap Table Written }
 
 impl Row {
     /// The payload as a part of what was lent.
@@ -141,6 +160,18 @@ impl Row {
             _ => &[],
         };
         &lent[self.offset as usize..][..self.length as usize]
+    }
+}
+
+impl Table {
+    /// The schema's name as a part of the payload that was read.
+    pub fn schema<'a>(&self, payload: &'a [u8]) -> &'a [u8] {
+        &payload[self.schema_offset as usize..][..self.schema_length as usize]
+    }
+
+    /// The table's name as a part of the payload that was read.
+    pub fn name<'a>(&self, payload: &'a [u8]) -> &'a [u8] {
+        &payload[self.name_offset as usize..][..self.name_length as usize]
     }
 }
 
@@ -249,14 +280,30 @@ pub fn next_visible(magic: u64, pages: &[u8], page: u64, slot: u16) -> Visible {
 /// Fills the numbers with visible rows from a slot of a page on, four numbers a row, read by `listed`. Refuses as
 /// `verify` does; the numbers then stay.
 pub fn list_visible(magic: u64, pages: &[u8], page: u64, slot: u16, rows: &mut [u64]) -> Listing {
+    list(c::lq_list_visible, magic, pages, (page, slot), rows)
+}
+
+/// The same of the cancelled rows: those that `list_visible` passes over.
+pub fn list_cancelled(magic: u64, pages: &[u8], page: u64, slot: u16, rows: &mut [u64]) -> Listing {
+    list(c::lq_list_cancelled, magic, pages, (page, slot), rows)
+}
+
+fn list(
+    call: c::List,
+    magic: u64,
+    pages: &[u8],
+    (page, slot): (u64, u16),
+    rows: &mut [u64],
+) -> Listing {
+    let (from, to) = (pages.as_ptr(), rows.as_mut_ptr());
     filled(|out, out_len| unsafe {
-        c::lq_list_visible(
+        call(
             magic,
-            pages.as_ptr(),
+            from,
             pages.len(),
             page,
             slot,
-            rows.as_mut_ptr(),
+            to,
             rows.len(),
             out,
             out_len,
@@ -283,5 +330,55 @@ pub fn free_map(magic: u64, pages: &[u8], map: &mut [u8]) -> FreeMap {
             out,
             out_len,
         )
+    })
+}
+
+/// Reads the payload of a catalog's table row. Refuses 34, 35 and 36.
+pub fn table_read(payload: &[u8]) -> Table {
+    filled(|out, out_len| unsafe {
+        c::lq_table_read(payload.as_ptr(), payload.len(), out, out_len)
+    })
+}
+
+/// The same for a reader that knows only the first two forms; it refuses the newest by 38.
+pub fn table_read_older(payload: &[u8]) -> Table {
+    filled(|out, out_len| unsafe {
+        c::lq_table_read_older(payload.as_ptr(), payload.len(), out, out_len)
+    })
+}
+
+/// Writes a table's row in the newest form at the front of an area. Refuses 36, then 37; the area then keeps what it
+/// holds.
+pub fn table_write(
+    table: u32,
+    root: u64,
+    schema: &[u8],
+    name: &[u8],
+    layout: u8,
+    version: u64,
+    area: &mut [u8],
+) -> Written {
+    filled(|out, out_len| unsafe {
+        c::lq_table_write(
+            table,
+            root,
+            schema.as_ptr(),
+            schema.len(),
+            name.as_ptr(),
+            name.len(),
+            layout,
+            version,
+            area.as_mut_ptr(),
+            area.len(),
+            out,
+            out_len,
+        )
+    })
+}
+
+/// The first visible row with a readable payload and this table id, or none. Refuses as `verify` does.
+pub fn table_find(magic: u64, pages: &[u8], table: u32) -> Visible {
+    filled(|out, out_len| unsafe {
+        c::lq_table_find(magic, pages.as_ptr(), pages.len(), table, out, out_len)
     })
 }

@@ -27,7 +27,7 @@ macro_rules! refusals {
     ($($number:literal $name:ident $place:ident $when:literal;)+) => {
         $(pub const $name: u64 = $number;)+
 
-        /// Every refusal, by number from 1 on.
+        /// Every refusal, by rising number.
         pub const REFUSALS: &[Refusal] = &[$(Refusal {
             number: $number,
             name: stringify!($name),
@@ -60,6 +60,11 @@ refusals! {
     17 PAGE_ID PageIndex "a page has another id than its index";
     18 PAGE_CHECKSUM PageIndex "a page's checksum is not that of its body";
     19 PAGE_SLOTS PageOffset "a data page breaks a rule of slots: its item count, free start, free end or a slot is wrong";
+    34 TABLE_ROW_ENDS_EARLY Nothing "a catalog payload ends before its names do";
+    35 TABLE_ROW_FORM Nothing "a catalog payload has 2 to 8 or more than 9 bytes after its names";
+    36 TABLE_ROW_LAYOUT Nothing "a layout of a table other than 0 (heap) and 1 (clustered)";
+    37 TABLE_ROW_NO_ROOM Nothing "a name of a table has over 255 bytes, or the lent area is too short for its row";
+    38 TABLE_ROW_NEWER Nothing "a catalog payload has the newest form, which an older reader does not know";
 }
 
 /// The refusal of a number, if there is one.

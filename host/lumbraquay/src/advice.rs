@@ -7,7 +7,7 @@ use crate::args::Parsed;
 use crate::failure::Failure;
 use crate::fault;
 use crate::found::{after_damage, found, is_page_file, is_swapped, After};
-use crate::input::{head_fields, Log, Read};
+use crate::input::{head_fields, Log, Pages, Read};
 use crate::json::Json;
 use crate::output::Output;
 use crate::show;
@@ -95,16 +95,35 @@ fn advice(verdict: Verdict, read: Read) -> String {
         return "the page file starts with WALN, as logs do: give PAGES first, then LOG"
             .to_string();
     }
-    let general = general(verdict.number);
+    let mut parts = vec![general(verdict.number).to_string()];
     if is_page_file(verdict, read) {
-        return format!(
-            "{general}; by its length it may be a page file: PAGES comes first, then LOG"
-        );
+        parts.push("by its length it may be a page file: PAGES comes first, then LOG".to_string());
     }
-    match read.log.and_then(|log| until(verdict, log)) {
-        Some(more) => format!("{general}; {more}"),
-        None => general.to_string(),
+    parts.extend(read.log.and_then(|log| until(verdict, log)));
+    parts.extend(read.pages.and_then(|pages| wrong_magic(verdict, pages)));
+    parts.extend(where_others_are(verdict, read).map(str::to_string));
+    parts.join("; ")
+}
+
+/// Pages are judged by the magic of page 0 where none is given, so damage to it is told of every other page.
+fn wrong_magic(verdict: Verdict, pages: &Pages) -> Option<String> {
+    let page = fault::bad_page(verdict)?;
+    if let Some(magic) = pages.magic_of_the_others() {
+        return Some(format!(
+            "page 0's own magic may be the wrong one: every other page has {magic:#x}, so try `verify --magic {magic:#x}`"
+        ));
     }
+    let differs = verdict.number == refusal::PAGE_MAGIC_OR_TYPE && !pages.has_its_magic(page);
+    (differs && pages.magic_is_of_page_0())
+        .then(|| "page 0's own magic may be the wrong one instead".to_string())
+}
+
+fn where_others_are(verdict: Verdict, read: Read) -> Option<&'static str> {
+    let of_one_page = matches!(
+        verdict.number,
+        refusal::PAGE_ID | refusal::PAGE_CHECKSUM | refusal::PAGE_SLOTS
+    );
+    (of_one_page && !read.all_listed).then_some("`verify --all` lists every bad page")
 }
 
 /// How to go on with the log before a damaged entry, and what that leaves out.
@@ -145,9 +164,12 @@ fn general(number: u64) -> &'static str {
         refusal::PAGE_OVERFULL => "the log puts more on this page than it can hold: see that the pages and the log belong together",
         refusal::NO_SUCH_PAGE => "ask for one of the pages that are there",
         refusal::MAP_SHORT => "lend a longer map",
-        refusal::PAGE_ID => "another page stands here: see that the file was copied whole and in order, or put the page back from a backup or the double-write file; `verify --all` lists every bad page",
-        refusal::PAGE_CHECKSUM => "the page is torn or damaged: put it back from a backup or the double-write file; `verify --all` lists every bad page",
-        refusal::PAGE_SLOTS => "the body's checksum is right, so the page was written like this or its header, which has no checksum, is damaged: put it back from a backup or the double-write file; `verify --all` lists every bad page",
+        refusal::PAGE_ID => "another page stands here: see that the file was copied whole and in order, or put the page back from a backup or the double-write file",
+        refusal::PAGE_CHECKSUM => "the page is torn or damaged: put it back from a backup or the double-write file",
+        refusal::PAGE_SLOTS => "the body's checksum is right, so the page was written like this or its header, which has no checksum, is damaged: put it back from a backup or the double-write file",
+        refusal::TABLE_ROW_ENDS_EARLY | refusal::TABLE_ROW_FORM | refusal::TABLE_ROW_LAYOUT => "see that these bytes are a row of the catalog's tables, whole",
+        refusal::TABLE_ROW_NO_ROOM => "lend a longer area, or shorten the name",
+        refusal::TABLE_ROW_NEWER => "use a reader that knows the newest form",
         _ => "use a version of this command that fits the library",
     }
 }

@@ -62,6 +62,12 @@ pub const FLOOR: Choice = Choice::value(
     "all up to this LSN is known to be flushed; 0 where not given",
 );
 
+pub const CATALOG: Choice = Choice::value(
+    "--catalog",
+    "FILE",
+    "show the names of tables, by the table rows of this page file",
+);
+
 pub const QUIET: Choice = Choice::flag(
     "--quiet",
     "print nothing but failures; the exit status tells the rest",
@@ -187,8 +193,7 @@ impl Parsed {
         if let Some((name, about)) = takes.get(self.given.len()) {
             return Err(self.wrong(format!("{name} is missing: {about}")));
         }
-        let standard = self.given.iter().filter(|given| *given == files::STANDARD);
-        if standard.count() > 1 {
+        if self.standard_count() > 1 {
             return Err(self.wrong("only one file can be standard input".to_string()));
         }
         match self.given.get(takes.len()) {
@@ -198,6 +203,16 @@ impl Parsed {
                 word.to_string_lossy()
             ))),
         }
+    }
+
+    fn standard_count(&self) -> usize {
+        let standard = self.given.iter().filter(|given| *given == files::STANDARD);
+        standard.count()
+    }
+
+    /// Whether one of the files that the command takes is standard input.
+    pub fn takes_standard(&self) -> bool {
+        self.standard_count() > 0
     }
 
     /// A usage failure of this command.

@@ -1,6 +1,6 @@
 //! The two files that commands read, and the options that say how.
 
-use std::path::PathBuf;
+use std::path::{Path, PathBuf};
 
 use library::{Verdict, LOG_HEAD_BYTES, LOG_LIMIT_BYTES, PAGE_BYTES, PAGE_LIMIT};
 
@@ -35,8 +35,26 @@ impl Pages {
         Pages::of(parsed, held.read(PAGE_BYTES * PAGE_LIMIT)?)
     }
 
+    /// Reads the page file that an option names, if it is given; its magic is that of its page 0.
+    pub fn chosen(parsed: &Parsed, option: &str) -> Result<Option<Pages>, Failure> {
+        let Some(path) = parsed.chosen_path(option) else {
+            return Ok(None);
+        };
+        if files::is_standard(path) && parsed.takes_standard() {
+            return Err(parsed.wrong("only one file can be standard input".to_string()));
+        }
+        let whole = files::read(path, PAGE_BYTES * PAGE_LIMIT)?;
+        Pages::with_magic(path, whole, None).map(Some)
+    }
+
     fn of(parsed: &Parsed, whole: Whole) -> Result<Pages, Failure> {
-        let path = parsed.path(0);
+        let given = parsed.chosen_number("--magic")?;
+        let pages = Pages::with_magic(parsed.path(0), whole, given)?;
+        parsed.magic.set(Some(pages.magic));
+        Ok(pages)
+    }
+
+    fn with_magic(path: &Path, whole: Whole, given: Option<u64>) -> Result<Pages, Failure> {
         let Whole {
             bytes,
             length,
@@ -45,9 +63,7 @@ impl Pages {
         if bytes.is_empty() {
             return Err(Failure::file("use", path, "it is empty and holds no page"));
         }
-        let given = parsed.chosen_number("--magic")?;
-        let magic = given.unwrap_or_else(|| magic_of_page_0(&bytes));
-        parsed.magic.set(Some(magic));
+        let magic = given.unwrap_or_else(|| magic_of(&bytes));
         Ok(Pages {
             path: path.to_path_buf(),
             magic,
@@ -66,6 +82,23 @@ impl Pages {
     pub fn page(&self, index: u64) -> Option<&[u8]> {
         let mut pages = self.bytes.chunks_exact(PAGE_BYTES);
         pages.nth(usize::try_from(index).ok()?)
+    }
+
+    pub fn magic_is_of_page_0(&self) -> bool {
+        !self.magic_given
+    }
+
+    pub fn has_its_magic(&self, index: u64) -> bool {
+        self.page(index)
+            .is_some_and(|page| magic_of(page) == self.magic)
+    }
+
+    /// The magic that every page but page 0 has, where the one read off page 0 is another.
+    pub fn magic_of_the_others(&self) -> Option<u64> {
+        let mut others = self.bytes.chunks_exact(PAGE_BYTES).skip(1).map(magic_of);
+        let magic = others.next()?;
+        let agree = magic != self.magic && others.all(|other| other == magic);
+        (agree && self.magic_is_of_page_0()).then_some(magic)
     }
 
     pub fn magic_from(&self) -> &'static str {
@@ -96,8 +129,8 @@ impl Pages {
     }
 }
 
-/// The first eight bytes, as a number.
-fn magic_of_page_0(bytes: &[u8]) -> u64 {
+/// The first eight bytes of a page, as a number.
+fn magic_of(bytes: &[u8]) -> u64 {
     bytes
         .first_chunk()
         .map_or(0, |first: &[u8; 8]| u64::from_le_bytes(*first))
@@ -164,6 +197,8 @@ pub struct Read<'a> {
     pub pages: Option<&'a Pages>,
     pub log: Option<&'a Log>,
     pub floor: u64,
+    /// Whether every bad page is already told.
+    pub all_listed: bool,
 }
 
 impl<'a> Read<'a> {
@@ -172,6 +207,7 @@ impl<'a> Read<'a> {
             pages: Some(pages),
             log: None,
             floor: 0,
+            all_listed: false,
         }
     }
 
@@ -180,6 +216,7 @@ impl<'a> Read<'a> {
             pages: None,
             log: Some(log),
             floor: 0,
+            all_listed: false,
         }
     }
 
@@ -188,6 +225,7 @@ impl<'a> Read<'a> {
             pages: Some(pages),
             log: Some(log),
             floor,
+            all_listed: false,
         }
     }
 }

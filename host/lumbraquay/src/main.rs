@@ -2,6 +2,7 @@
 
 mod advice;
 mod args;
+mod catalog;
 mod changes;
 mod commands;
 mod done;
@@ -13,6 +14,7 @@ mod fresh;
 mod held;
 mod input;
 mod json;
+mod listing;
 mod memory;
 mod mended;
 mod output;

@@ -51,6 +51,24 @@ pub fn outcome(number: u64) -> &'static str {
     }
 }
 
+/// The layout of a table.
+pub fn layout(number: u64) -> &'static str {
+    match number {
+        library::HEAP => "heap",
+        library::CLUSTERED => "clustered",
+        _ => "unknown",
+    }
+}
+
+/// A name that is plain bytes: as it is where that is a word, else as a payload.
+pub fn name_of_bytes(bytes: &[u8]) -> String {
+    let is_word = |byte: &u8| byte.is_ascii_alphanumeric() || *byte == b'_';
+    match std::str::from_utf8(bytes) {
+        Ok(text) if !text.is_empty() && bytes.iter().all(is_word) => text.to_string(),
+        _ => payload(bytes, usize::MAX),
+    }
+}
+
 pub fn hex(bytes: &[u8]) -> String {
     bytes.iter().map(|byte| format!("{byte:02x}")).collect()
 }

@@ -4,6 +4,7 @@ use std::collections::{BTreeMap, BTreeSet};
 
 use library::Step;
 
+use crate::catalog::TableNames;
 use crate::failure::Failure;
 use crate::json::Json;
 use crate::output::Output;
@@ -62,15 +63,16 @@ impl Stats {
         self.rolled_back += u64::from(walk::is_rollback(step));
     }
 
-    pub fn tell(&self, output: &mut Output) -> Result<(), Failure> {
+    pub fn tell(&self, output: &mut Output, names: Option<&TableNames>) -> Result<(), Failure> {
         output.line("  type            entries       bytes  of all bytes")?;
         for (number, sum) in &self.types {
-            self.tell_sum(output, show::entry_type(*number), sum)?;
+            self.tell_sum(output, show::entry_type(*number), sum, "")?;
         }
         for (table, sum) in &self.tables {
-            self.tell_sum(output, &format!("table {table}"), sum)?;
+            let name = names.and_then(|names| names.get(*table));
+            self.tell_sum(output, &format!("table {table}"), sum, name.unwrap_or(""))?;
         }
-        self.tell_sum(output, "all", &self.all)?;
+        self.tell_sum(output, "all", &self.all, "")?;
         if let Some((lowest, highest)) = self.lsns {
             output.line(format_args!("  LSN {lowest} to {highest}"))?;
         }
@@ -86,15 +88,22 @@ impl Stats {
         ))
     }
 
-    fn tell_sum(&self, output: &mut Output, name: &str, sum: &Sum) -> Result<(), Failure> {
+    fn tell_sum(
+        &self,
+        output: &mut Output,
+        what: &str,
+        sum: &Sum,
+        name: &str,
+    ) -> Result<(), Failure> {
         let share = 100.0 * sum.bytes as f64 / self.all.bytes.max(1) as f64;
-        output.line(format_args!(
-            "  {name:<13}  {:>8}  {:>10}  {share:>11.1}%",
+        let line = format!(
+            "  {what:<13}  {:>8}  {:>10}  {share:>11.1}%  {name}",
             sum.entries, sum.bytes
-        ))
+        );
+        output.line(line.trim_end())
     }
 
-    pub fn fields(&self) -> Json {
+    pub fn fields(&self, names: Option<&TableNames>) -> Json {
         let types = self.types.iter().map(|(number, sum)| {
             let mut fields = vec![
                 ("type", (*number).into()),
@@ -105,6 +114,10 @@ impl Stats {
         });
         let tables = self.tables.iter().map(|(table, sum)| {
             let mut fields = vec![("table", (*table).into())];
+            if let Some(names) = names {
+                let name = names.get(*table).map_or(Json::Null, Json::from);
+                fields.push(("table_name", name));
+            }
             fields.extend(sum.fields());
             Json::Object(fields)
         });

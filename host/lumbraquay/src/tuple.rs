@@ -41,9 +41,9 @@ impl<'a> Tuple<'a> {
 
     /// State, header and payload, of which so many letters are shown.
     pub fn words(&self, most: usize) -> String {
-        let state = if self.is_deleted() { "deleted" } else { "live" };
         format!(
-            "{state}, xmin {}, xmax {}, {}",
+            "{}, xmin {}, xmax {}, {}",
+            state(self.is_deleted(), self.xmax()),
             self.xmin(),
             self.xmax(),
             show::payload(self.payload(), most)
@@ -62,6 +62,15 @@ impl<'a> Tuple<'a> {
                 show::printable(payload).map_or(Json::Null, Json::from),
             ),
         ])
+    }
+}
+
+/// A row's state: live where it is visible, else cancelled. Older releases of the portal cancelled a row by its xmax alone.
+pub fn state(is_deleted: bool, xmax: u64) -> &'static str {
+    match (is_deleted, xmax) {
+        (true, _) => "cancelled, deleted byte 1",
+        (false, 0) => "live",
+        (false, _) => "cancelled, deleted byte 0",
     }
 }
 

@@ -2,6 +2,7 @@
 //! slowly, so that another program can be compared with this one.
 
 mod bytes;
+mod catalog;
 mod crc;
 mod examine;
 mod listing;
@@ -11,9 +12,11 @@ mod page;
 mod recovery;
 mod row;
 
+pub use catalog::{table_find, table_read, table_read_older, table_write, Table, Written};
 pub use crc::crc32c;
 pub use listing::{
-    free_map, list_visible, next_visible, verify, verify_from, FreeMap, Listing, Verdict, Visible,
+    free_map, list_cancelled, list_visible, next_visible, verify, verify_from, FreeMap, Listing,
+    Verdict, Visible,
 };
 pub use log::{backward, forward, log_open, EntryFields, Step};
 pub use recovery::{recover, Answer, Record};

@@ -1,5 +1,5 @@
-//! What is done over magic and pages alone: verifying, listing visible rows and
-//! the map of free pages.
+//! What is done over magic and pages alone: verifying, listing visible and
+//! cancelled rows and the map of free pages.
 
 use crate::page::{
     check_page_bytes, check_pages_from, item_count, page_type, tuple_in_slot, DATA, FREE,
@@ -44,7 +44,7 @@ pub struct FreeMap {
 }
 
 /// Refusal 1, then the first page from an index on that is not good.
-fn check(magic: u64, pages: &[u8], first: u64) -> Result<(), Refusal> {
+pub(crate) fn check(magic: u64, pages: &[u8], first: u64) -> Result<(), Refusal> {
     check_page_bytes(pages)?;
     check_pages_from(magic, pages, first)
 }
@@ -64,14 +64,16 @@ pub fn verify_from(magic: u64, pages: &[u8], first: u64) -> Verdict {
     }
 }
 
-/// Whether the tuple that starts here is a visible row.
+/// Whether the tuple that starts here is a visible row: exactly when its deleted
+/// byte is 0 and its xmax is 0.
 fn is_visible(tuple: &[u8]) -> bool {
-    tuple[16] == 0
+    let xmax = &tuple[8..16];
+    tuple[16] == 0 && xmax.iter().all(|byte| *byte == 0)
 }
 
-/// The first row on a page of type 1 at or after a (page, slot) with deleted
-/// byte 0, in that order, with its page, slot, tuple length and the tuple's
-/// offset in the pages, or none.
+/// The first visible row on a page of type 1 at or after a (page, slot), in that
+/// order, with its page, slot, tuple length and the tuple's offset in the pages,
+/// or none.
 pub fn next_visible(magic: u64, pages: &[u8], page: u64, slot: u16) -> Visible {
     if let Err(Refusal { number, place }) = check(magic, pages, 0) {
         return Visible {
@@ -80,36 +82,31 @@ pub fn next_visible(magic: u64, pages: &[u8], page: u64, slot: u16) -> Visible {
             ..Visible::default()
         };
     }
-    for (index, own) in pages.chunks_exact(PAGE_BYTES).enumerate() {
-        if page_type(own) != DATA {
-            continue;
-        }
-        for candidate in 0..item_count(own) {
-            if (index as u64, candidate) < (page, slot as usize) {
-                continue;
-            }
-            let Some((at, length)) = tuple_in_slot(own, candidate) else {
-                continue;
-            };
-            if is_visible(&own[at..]) {
-                return Visible {
-                    number: 0,
-                    place: 0,
-                    found: 1,
-                    page: index as u64,
-                    slot: candidate as u64,
-                    length: length as u64,
-                    offset: (index * PAGE_BYTES + at) as u64,
-                };
-            }
-        }
-    }
-    Visible::default()
+    visible_rows(pages)
+        .find(|row| (row.page, row.slot) >= (page, slot.into()))
+        .unwrap_or_default()
 }
 
 /// Visible rows from a (page, slot) on, four numbers each: page, slot, tuple length and the tuple's offset in the pages,
 /// as many as fit. Says how many, and the place of the next one, or the count of pages and 0 where there is none.
 pub fn list_visible(magic: u64, pages: &[u8], page: u64, slot: u16, rows: &mut [u64]) -> Listing {
+    list(magic, pages, page, slot, rows, is_visible)
+}
+
+/// The same of the rows that are passed over there.
+pub fn list_cancelled(magic: u64, pages: &[u8], page: u64, slot: u16, rows: &mut [u64]) -> Listing {
+    list(magic, pages, page, slot, rows, |tuple| !is_visible(tuple))
+}
+
+/// The rows whose tuples are wanted.
+fn list(
+    magic: u64,
+    pages: &[u8],
+    page: u64,
+    slot: u16,
+    rows: &mut [u64],
+    is_wanted: fn(&[u8]) -> bool,
+) -> Listing {
     if let Err(Refusal { number, place }) = check(magic, pages, 0) {
         return Listing {
             number,
@@ -122,29 +119,17 @@ pub fn list_visible(magic: u64, pages: &[u8], page: u64, slot: u16, rows: &mut [
         ..Listing::default()
     };
     let mut room = rows.chunks_exact_mut(4);
-    for (index, own) in pages.chunks_exact(PAGE_BYTES).enumerate() {
-        if page_type(own) != DATA {
+    for found in rows_of(pages, is_wanted) {
+        if (found.page, found.slot) < (page, slot.into()) {
             continue;
         }
-        for candidate in 0..item_count(own) {
-            if (index as u64, candidate) < (page, slot as usize) {
-                continue;
-            }
-            let Some((at, length)) = tuple_in_slot(own, candidate) else {
-                continue;
-            };
-            if !is_visible(&own[at..]) {
-                continue;
-            }
-            let Some(row) = room.next() else {
-                answer.page = index as u64;
-                answer.slot = candidate as u64;
-                return answer;
-            };
-            let offset = index * PAGE_BYTES + at;
-            row.copy_from_slice(&[index, candidate, length, offset].map(|number| number as u64));
-            answer.count += 1;
-        }
+        let Some(row) = room.next() else {
+            answer.page = found.page;
+            answer.slot = found.slot;
+            return answer;
+        };
+        row.copy_from_slice(&[found.page, found.slot, found.length, found.offset]);
+        answer.count += 1;
     }
     answer
 }
@@ -179,4 +164,32 @@ pub fn free_map(magic: u64, pages: &[u8], map: &mut [u8]) -> FreeMap {
         place: 0,
         free,
     }
+}
+
+/// Every visible row, in the order of the listing.
+pub(crate) fn visible_rows(pages: &[u8]) -> impl Iterator<Item = Visible> + '_ {
+    rows_of(pages, is_visible)
+}
+
+/// Every row of the Data pages whose tuple is wanted, in the order of the
+/// listing.
+fn rows_of(pages: &[u8], is_wanted: fn(&[u8]) -> bool) -> impl Iterator<Item = Visible> + '_ {
+    let data = pages
+        .chunks_exact(PAGE_BYTES)
+        .enumerate()
+        .filter(|(_, own)| page_type(own) == DATA);
+    data.flat_map(move |(index, own)| {
+        (0..item_count(own)).filter_map(move |slot| {
+            let (at, length) = tuple_in_slot(own, slot)?;
+            is_wanted(&own[at..]).then_some(Visible {
+                number: 0,
+                place: 0,
+                found: 1,
+                page: index as u64,
+                slot: slot as u64,
+                length: length as u64,
+                offset: (index * PAGE_BYTES + at) as u64,
+            })
+        })
+    })
 }

@@ -1,10 +1,7 @@
 use mathlib.Core.Path.{sym, ap, _∙_}
 use native.Mathlib.Omega.{arith}
 use borrow.Author.Needs.{needs}
-use Prim.Native.Nat.{_≤_}
-use lib.ListN.{length}
 use lib.Seq.{length-take-le}
-use Rattle.page.specs.FreeMap.{mapLength}
 use Rattle.page.proofs.Mapping.{map-refused, map-short, map-filled, length-filled}
 use Rattle.page.proofs.Verdicts.{number-of, accepted-size}
 use Rattle.page.proofs.free_map.Statement.{statement}
@@ -25,11 +22,11 @@ fill-requires c κs =
     let z = accepted-size (a .magic) (a .pages .now) 0 (sym (ap number-of (i .before .before .verify .ensures)) ∙ i .if1 .left) in
     (c .before .if2 .left, omega arith)
 
--- the bytes that are counted are there
-there : (c : tie.After-slice-known2) → mapLength (c .before .before .before .before .before .before .before .before .before .before .args .pages .now) ≤ length (c .before .before .fill .last .1 .0)
+-- the bytes that are counted are there, since filling keeps the map's length
+there : tie.Need-slice-reshare-prefix-ones
 there c =
     let a = c .before .before .before .before .before .before .before .before .before .before .args in
-    rw (c .before .before .fill .ensures, length-filled (a .pages .now) (a .map .now) _ (c .before .before .before .before .if2 .left)) (c .before .before .before .before .if2 .left)
+    rw (c .before .before .fill .ensures, length-filled (a .pages .now) (a .map .now) _ (c .before .before .before .before .if2 .left)) (omega (arith, c .before .before .before .before .if2 .left))
 
 ones-requires : tie.Need-ones-requires
 ones-requires c κs =

@@ -36,6 +36,7 @@ static void look(const char *function, size_t numbers, size_t out_len) {
     }
 
 static uint8_t pages[1 << 20], kept[sizeof pages], log_bytes[1 << 16], map[64];
+static uint8_t area[LQ_TABLE_LIMIT_BYTES];
 static uint64_t table[64], rows[64];
 
 static size_t read_all(const char *name, uint8_t *into, size_t room) {
@@ -65,8 +66,17 @@ int main(int count, char **words) {
     CALL(lq_read_row, LQ_READ_ROW_NUMBERS, 1, 0, NULL, 0, NULL, 0, 0, 0)
     CALL(lq_next_visible, LQ_NEXT_VISIBLE_NUMBERS, 1, NULL, 0, 0, 0)
     CALL(lq_list_visible, LQ_LIST_VISIBLE_NUMBERS, 1, NULL, 0, 0, 0, NULL, 0)
+    CALL(lq_list_cancelled, LQ_LIST_VISIBLE_NUMBERS, 1, NULL, 0, 0, 0, NULL, 0)
     CALL(lq_free_map, LQ_FREE_MAP_NUMBERS, 1, NULL, 0, NULL, 0)
     must(whole[LQ_FREE_MAP_NUMBER] == LQ_DONE, "lq_free_map", "no pages need no map", MOST);
+
+    CALL(lq_table_read, LQ_TABLE_READ_NUMBERS, NULL, 0)
+    must(whole[LQ_TABLE_READ_NUMBER] == LQ_TABLE_ROW_ENDS_EARLY, "lq_table_read", "nothing ends early", MOST);
+    CALL(lq_table_read_older, LQ_TABLE_READ_NUMBERS, NULL, 0)
+    CALL(lq_table_write, LQ_TABLE_WRITE_NUMBERS, 14, 9, NULL, 0, NULL, 0, LQ_HEAP, 1, NULL, 0)
+    must(whole[LQ_TABLE_WRITE_NUMBER] == LQ_TABLE_ROW_NO_ROOM, "lq_table_write", "no area is too short", MOST);
+    CALL(lq_table_find, LQ_NEXT_VISIBLE_NUMBERS, 1, NULL, 0, 14)
+    must(whole[LQ_NEXT_VISIBLE_FOUND] == 0, "lq_table_find", "no pages have no row", MOST);
 
     size_t pages_len = read_all(words[1], kept, sizeof kept), log_len = read_all(words[2], log_bytes, sizeof log_bytes);
     uint64_t magic = 0;
@@ -97,6 +107,8 @@ int main(int count, char **words) {
         must(rows[i] == out[LQ_NEXT_VISIBLE_PAGE + i], "lq_list_visible", "another first row than lq_next_visible's", MOST);
     CALL(lq_list_visible, LQ_LIST_VISIBLE_NUMBERS, magic, kept, pages_len, 0, 0, NULL, 0)
     must(whole[LQ_LIST_VISIBLE_PAGE] == rows[LQ_ROW_PAGE], "lq_list_visible", "goes on at the first row", MOST);
+    CALL(lq_list_cancelled, LQ_LIST_VISIBLE_NUMBERS, magic, kept, pages_len, 0, 0, rows, sizeof rows / sizeof *rows)
+    must(whole[LQ_LIST_VISIBLE_COUNT] == 0, "lq_list_cancelled", "no row is cancelled", MOST);
     CALL(lq_free_map, LQ_FREE_MAP_NUMBERS, magic, kept, pages_len, map, sizeof map)
     must(whole[LQ_FREE_MAP_FREE] == 1, "lq_free_map", "one page is free", MOST);
     CALL(lq_free_map, LQ_FREE_MAP_NUMBERS, magic, kept, pages_len, NULL, 0)
@@ -105,11 +117,24 @@ int main(int count, char **words) {
          log_len, table, sizeof table / sizeof *table)
     must(whole[LQ_RECOVER_COMMITTED] == 2, "lq_recover", "two transactions committed", MOST);
     must(table[LQ_RECORD_OUTCOME] == LQ_COMMITTED, "lq_recover", "the first transaction committed", MOST);
+    CALL(lq_list_cancelled, LQ_LIST_VISIBLE_NUMBERS, magic, pages, pages_len, 0, 0, rows, sizeof rows / sizeof *rows)
+    must(whole[LQ_LIST_VISIBLE_COUNT] == 1 && rows[LQ_ROW_PAGE] == 1 && rows[LQ_ROW_SLOT] == 2, "lq_list_cancelled", "one row was deleted", MOST);
     CALL(lq_recover, LQ_RECOVER_NUMBERS, magic, 0, (uint8_t *)memcpy(pages, kept, sizeof kept), pages_len, log_bytes,
          log_len, NULL, 0)
     must(whole[LQ_RECOVER_NUMBER] == LQ_NO_RECORD, "lq_recover", "no table has no record left", MOST);
 
-    for (uint64_t number = 0; number <= LQ_PAGE_SLOTS + 1; number++)
+    CALL(lq_table_write, LQ_TABLE_WRITE_NUMBERS, 14, 9, (const uint8_t *)"app", 3, (const uint8_t *)"orders", 6,
+         LQ_CLUSTERED, 258, area, sizeof area)
+    must(whole[LQ_TABLE_WRITE_LENGTH] == 32, "lq_table_write", "23 bytes and those of the names", MOST);
+    CALL(lq_table_read, LQ_TABLE_READ_NUMBERS, area, 32)
+    must(whole[LQ_TABLE_READ_TABLE] == 14 && whole[LQ_TABLE_READ_LAYOUT] == LQ_CLUSTERED, "lq_table_read", "table 14", MOST);
+    must(memcmp(&area[whole[LQ_TABLE_READ_NAME_OFFSET]], "orders", 6) == 0, "lq_table_read", "its name", MOST);
+    CALL(lq_table_read_older, LQ_TABLE_READ_NUMBERS, area, 32)
+    must(whole[LQ_TABLE_READ_NUMBER] == LQ_TABLE_ROW_NEWER, "lq_table_read_older", "the newest form", MOST);
+    CALL(lq_table_find, LQ_NEXT_VISIBLE_NUMBERS, magic, kept, pages_len, 14)
+    must(whole[LQ_NEXT_VISIBLE_FOUND] == 0, "lq_table_find", "orders are no tables", MOST);
+
+    for (uint64_t number = 0; number < 64; number++)
         printf("%d %s: %s\n", (int)number, lq_refusal_name(number), lq_refusal_meaning(number));
     return wrong;
 }

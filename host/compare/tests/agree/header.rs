@@ -4,7 +4,9 @@
 use std::collections::BTreeMap;
 
 use library::refusal::{DONE, REFUSALS};
-use library::{Answer, FreeMap, Listed, Listing, Record, Row, Step, Verdict, Visible};
+use library::{
+    Answer, FreeMap, Listed, Listing, Record, Row, Step, Table, Verdict, Visible, Written,
+};
 
 const HEADER: &str = include_str!("../../../../include/lumbraquay.h");
 const CODE: &str = include_str!("../../../../crates/refusals/src/lib.rt");
@@ -58,6 +60,9 @@ fn names_and_numbers_are_the_same() {
         ("FROM_NOWHERE", library::FROM_NOWHERE),
         ("FROM_LOG", library::FROM_LOG),
         ("FROM_PAGES", library::FROM_PAGES),
+        ("HEAP", library::HEAP),
+        ("CLUSTERED", library::CLUSTERED),
+        ("TABLE_LIMIT_BYTES", library::TABLE_LIMIT_BYTES as u64),
         ("DONE", DONE),
     ]
     .map(|(name, number)| (name.to_string(), number))
@@ -78,14 +83,16 @@ fn names_and_numbers_are_the_same() {
         ("LIST_VISIBLE", &Listing::NAMES),
         ("ROW", &Listed::NAMES),
         ("FREE_MAP", &FreeMap::NAMES),
+        ("TABLE_READ", &Table::NAMES),
+        ("TABLE_WRITE", &Written::NAMES),
     ] {
         expected.extend(indices(answer, names));
     }
     assert_eq!(constants(), expected);
     assert_eq!(library::version(), library::VERSION);
-    assert!((1..)
-        .zip(REFUSALS)
-        .all(|(number, refusal)| refusal.number == number));
+    assert!(REFUSALS
+        .windows(2)
+        .all(|pair| pair[0].number < pair[1].number));
 }
 
 /// `noDataPage` for `NO_DATA_PAGE`.

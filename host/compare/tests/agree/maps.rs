@@ -11,7 +11,7 @@ const OTHER: u8 = 2;
 /// Bytes of a map: none, one, around one step of many, and around the longest.
 const LENGTHS: [usize; 7] = [0, 1, 63, 64, 65, 511, 512];
 
-/// How many pages lie before the last byte's last bit.
+/// How many pages fewer than a map's bits: so many bits of its last byte are spare.
 const SPARE: usize = 3;
 
 #[test]

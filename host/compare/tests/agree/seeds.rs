@@ -13,17 +13,21 @@ use crate::{assert_no_differences, tell};
 
 const SEEDS: Range<u64> = 0..20_000;
 
-/// The calls that refuse by the paper's numbers.
-const REFUSING: [&str; 8] = [
+/// The calls that are lent pages.
+const OVER_PAGES: [&str; 9] = [
     "recover",
     "read_row",
     "verify",
     "verify_from",
     "next_visible",
     "list_visible",
+    "list_cancelled",
     "free_map",
-    "log_open",
+    "table_find",
 ];
+
+/// The other calls that refuse by the papers' numbers.
+const OTHERS: [&str; 4] = ["log_open", "table_read", "table_read_older", "table_write"];
 
 /// One sweep over all seeds, which the tests below look at.
 fn seen() -> &'static Seen {
@@ -44,18 +48,19 @@ fn seen() -> &'static Seen {
 
 /// How often each call gave each number, and what else was counted.
 fn counts(seen: &Seen) -> String {
-    let mut text = format!("{:>22}", "number");
-    for entry in REFUSING {
-        text += &format!("{entry:>14}");
+    let mut text = format!("{:>23}", "number");
+    let refusing = || OVER_PAGES.into_iter().chain(OTHERS);
+    for entry in refusing() {
+        text += &format!("{entry:>18}");
     }
     let done = (0, "done");
     for (number, name) in [done]
         .into_iter()
         .chain(REFUSALS.iter().map(|it| (it.number, it.name)))
     {
-        text += &format!("\n{number:>2} {name:>19}");
-        for entry in REFUSING {
-            text += &format!("{:>14}", seen.times(entry, number));
+        text += &format!("\n{number:>2} {name:>20}");
+        for entry in refusing() {
+            text += &format!("{:>18}", seen.times(entry, number));
         }
     }
     for (event, times) in &seen.events {
@@ -88,11 +93,27 @@ fn both_programs_agree_on_every_seed() {
     assert_often(
         seen,
         &[
-            ("visible row", 20_000),
+            ("visible row", 10_000),
             ("listing that goes on", 2_000),
             ("row from the log", 5_000),
             ("row from the pages", 5_000),
             ("empty slot", 3_000),
+        ],
+    );
+}
+
+/// Rows with and without an xmax and a deleted byte; of the four kinds one alone is visible.
+#[test]
+fn each_kind_of_row_is_listed() {
+    let seen = seen();
+    assert_no_differences(seen);
+    assert_often(
+        seen,
+        &[
+            ("row with neither xmax nor deleted byte", 5_000),
+            ("row with xmax and deleted byte 0", 5_000),
+            ("row with xmax 0 and deleted byte", 1_000),
+            ("row with xmax and deleted byte", 1_000),
         ],
     );
 }
@@ -118,7 +139,7 @@ fn honest_histories_end_as_their_ledgers_say() {
 fn page_faults_are_told_apart() {
     let seen = seen();
     assert_no_differences(seen);
-    for entry in REFUSING.iter().filter(|it| **it != "log_open") {
+    for entry in OVER_PAGES {
         for number in [11, 17, 18, 19] {
             let times = seen.times(entry, number);
             assert!(times > 50, "{entry} gave {number} {times} times");
@@ -133,6 +154,44 @@ fn page_faults_are_told_apart() {
             ("19 at a slot by itself", 100),
             ("19 at a slot that shares a byte", 50),
             ("bad page behind a bad page", 50),
+        ],
+    );
+}
+
+/// Payloads and areas at every bound, and a search that passes over each kind of row.
+#[test]
+fn catalog_rows_reach_every_bound() {
+    let seen = seen();
+    assert_no_differences(seen);
+    for (entry, numbers) in [
+        ("table_read", &[0, 34, 35, 36][..]),
+        ("table_read_older", &[0, 34, 35, 36, 38]),
+        ("table_write", &[0, 36, 37]),
+        ("table_find", &[0, 1, 18]),
+    ] {
+        for &number in numbers {
+            let times = seen.times(entry, number);
+            assert!(times > 500, "{entry} gave {number} {times} times");
+        }
+    }
+    assert_often(
+        seen,
+        &[
+            ("first form read", 1_000),
+            ("second form read, heap", 1_000),
+            ("second form read, clustered", 1_000),
+            ("newest form read, heap", 1_000),
+            ("newest form read, clustered", 1_000),
+            ("name of 255 bytes read", 1_000),
+            ("row written and read back", 5_000),
+            ("37 for a name of 256 bytes", 1_000),
+            ("37 for an area one byte too short", 1_000),
+            ("37 for a shorter area", 500),
+            ("table found", 2_000),
+            ("table not found", 2_000),
+            ("cancelled row of the table passed over", 500),
+            ("row of another table passed over", 5_000),
+            ("unreadable row of the table passed over", 500),
         ],
     );
 }

@@ -38,7 +38,18 @@ fn call_everything() {
         library::list_visible(MAGIC, &pages, 299, 80, &mut [0; 4]).count,
         0
     );
+    assert_eq!(
+        library::list_cancelled(MAGIC, &pages, 299, 80, &mut [0; 4]).count,
+        0
+    );
     assert_eq!(library::free_map(MAGIC, &pages, &mut [0; 38]).free, 0);
+    assert_eq!(library::table_find(MAGIC, &pages, 14).found, 0);
+    let mut area = [0; library::TABLE_LIMIT_BYTES];
+    let names = [7; 255];
+    let written = library::table_write(14, 1, &names, &names, 0, 1, &mut area);
+    assert_eq!(written.length, area.len() as u64);
+    assert_eq!(library::table_read(&area).name(&area), names);
+    assert_eq!(library::table_read_older(&area).number, 38);
     let row = library::read_row(MAGIC, 0, &pages, &log, 299, 900);
     assert_eq!(row.payload(&pages, &log), b"late");
     let answer = library::recover(MAGIC, 0, &mut pages, &log, &mut table);

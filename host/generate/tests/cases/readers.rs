@@ -76,8 +76,10 @@ fn rows_are_as_recovery_would_leave_them() {
 }
 
 #[test]
-fn visible_rows_are_the_undeleted_tuples_in_order() {
+fn visible_rows_are_the_live_tuples_in_order() {
     let mut listed = 0;
+    // By xmax other than 0, and deleted byte 1.
+    let mut states = [[0; 2]; 2];
     for case in small_cases(1_300) {
         if next_visible(case.magic, &case.pages, 0, 0).number != 0 {
             continue;
@@ -96,7 +98,11 @@ fn visible_rows_are_the_undeleted_tuples_in_order() {
         }
         let expected: Vec<((u64, u16), usize)> = tuples_on(&case.pages)
             .into_iter()
-            .filter(|(_, tuple)| tuple[16] == 0)
+            .filter(|(_, tuple)| {
+                let (_, _, xmax, deleted, _) = header_of(tuple);
+                states[usize::from(xmax != 0)][deleted as usize] += 1;
+                (xmax, deleted) == (0, 0)
+            })
             .map(|(at, tuple)| (at, tuple.len()))
             .collect();
         assert_eq!(found, expected, "seed {}", case.seed);
@@ -110,7 +116,12 @@ fn visible_rows_are_the_undeleted_tuples_in_order() {
         let given = (next.found == 1).then_some(&given);
         assert_eq!(given, first, "seed {}", case.seed);
     }
+    println!("{listed} {states:?}");
     assert!(listed > 1_500, "{listed}");
+    assert!(
+        states.concat().iter().all(|&times| times > 500),
+        "{states:?}"
+    );
 }
 
 #[test]

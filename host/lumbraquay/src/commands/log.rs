@@ -4,9 +4,10 @@ use library::refusal::ENTRY_DAMAGED;
 use library::{Step, Verdict, LOG_HEAD_BYTES, STEP_DAMAGED, STEP_END, STEP_ENTRY, STEP_TORN};
 
 use crate::advice::{refusal_fields, text, unless_refused};
-use crate::args::{Choice, Command, Parsed, JSON};
+use crate::args::{Choice, Command, Parsed, CATALOG, JSON};
+use crate::catalog::TableNames;
 use crate::failure::Failure;
-use crate::input::{head_fields, Log, Read};
+use crate::input::{head_fields, Log, Pages, Read};
 use crate::json::Json;
 use crate::output::Output;
 use crate::show;
@@ -30,6 +31,7 @@ pub const COMMAND: Command = Command {
         Choice::value("--lsn-to", "LSN", "only entries of this LSN and below"),
         Choice::flag("--payload", "show the rows before and after each change"),
         Choice::flag("--stats", "count and sum the entries instead of listing them"),
+        CATALOG,
         JSON,
     ],
     more: "A torn tail ends a log and is no fault. Damage is refusal 4, told after the entries before it. Backward, PLACE should be\n\
@@ -41,6 +43,12 @@ pub const COMMAND: Command = Command {
 /// How many letters of a payload stand in a line of text.
 const SHOWN: usize = 200;
 
+/// How wide the names of tables stand.
+const NAME_WIDTH: usize = 20;
+
+/// What stands for the name of a table that the catalog does not have.
+const UNNAMED: &str = "-";
+
 /// What the listing starts from.
 struct Start {
     place: u64,
@@ -50,6 +58,32 @@ struct Start {
     limit: u64,
     filter: Filter,
     payload: bool,
+    catalog: Option<Catalog>,
+}
+
+/// The page file that names tables.
+struct Catalog {
+    pages: Pages,
+    names: TableNames,
+}
+
+impl Catalog {
+    /// What --catalog names, if it is given.
+    fn read(parsed: &Parsed, output: &mut Output) -> Result<Option<Catalog>, Failure> {
+        let Some(pages) = Pages::chosen(parsed, CATALOG.name)? else {
+            return Ok(None);
+        };
+        let verdict = library::verify(pages.magic, &pages.bytes);
+        unless_refused(parsed, output, verdict, Read::pages(&pages))?;
+        let names = TableNames::of(&pages);
+        Ok(Some(Catalog { pages, names }))
+    }
+}
+
+impl Start {
+    fn names(&self) -> Option<&TableNames> {
+        self.catalog.as_ref().map(|catalog| &catalog.names)
+    }
 }
 
 /// Which entries are listed.
@@ -99,6 +133,7 @@ fn run(parsed: &Parsed, output: &mut Output) -> Result<(), Failure> {
     let backward = parsed.flag("--backward");
     let from = parsed.chosen_number("--from")?;
     let limit = parsed.chosen_number("--limit")?.unwrap_or(u64::MAX);
+    let catalog = Catalog::read(parsed, output)?;
     let log = Log::read(parsed, 0)?;
     let opened = library::log_open(&log.bytes, backward);
     unless_refused(parsed, output, opened, Read::log(&log))?;
@@ -115,6 +150,7 @@ fn run(parsed: &Parsed, output: &mut Output) -> Result<(), Failure> {
         limit,
         filter: Filter::of(parsed)?,
         payload: parsed.flag("--payload"),
+        catalog,
     };
     match (parsed.flag("--stats"), parsed.flag("--json")) {
         (true, _) => sum(parsed, output, &log, &start),
@@ -201,7 +237,14 @@ fn damage(end: &Step) -> Option<Verdict> {
 
 fn list_text(output: &mut Output, log: &Log, start: &Start) -> Result<(), Failure> {
     output.line(log.line())?;
-    output.line("    offset  length       LSN  transaction  type           table  change")?;
+    let column = |text: &str| match start.names() {
+        Some(_) => format!("{text:<NAME_WIDTH$}  "),
+        None => String::new(),
+    };
+    output.line(format_args!(
+        "    offset  length       LSN  transaction  type           table  {}change",
+        column("name")
+    ))?;
     let walked = each_entry(log, start, |step| {
         let (before, after) = walk::tuples(&log.bytes, step);
         let target = walk::target(&log.bytes, step);
@@ -213,14 +256,19 @@ fn list_text(output: &mut Output, log: &Log, start: &Start) -> Result<(), Failur
             ),
             None => String::new(),
         };
+        let name = match (start.names(), target) {
+            (Some(names), Some(_)) => names.get(step.table).unwrap_or(UNNAMED),
+            _ => "",
+        };
         let line = format!(
-            "{:>10}  {:>6}  {:>8}  {:>11}  {:<13}  {:>5}  {change}",
+            "{:>10}  {:>6}  {:>8}  {:>11}  {:<13}  {:>5}  {}{change}",
             step.offset,
             step.length,
             step.lsn,
             step.transaction,
             show::entry_type(step.entry_type),
-            step.table
+            step.table,
+            column(name)
         );
         output.line(line.trim_end())?;
         for (name, tuple) in [("before:", before), ("after: ", after)] {
@@ -295,6 +343,9 @@ fn end_json(
         fields.extend(refusal_fields(verdict, Read::log(log)));
     }
     fields.extend(log.fields());
+    if let Some(catalog) = &start.catalog {
+        fields.push(("catalog_file", Json::text(catalog.pages.path.display())));
+    }
     fields.extend([
         ("backward", start.backward.into()),
         ("from", start.place.into()),
@@ -326,12 +377,18 @@ fn entry_fields(log: &Log, start: &Start, step: &Step) -> Vec<(&'static str, Jso
         ("type", step.entry_type.into()),
         ("type_name", show::entry_type(step.entry_type).into()),
         ("table", step.table.into()),
+    ];
+    if let Some(names) = start.names() {
+        let name = names.get(step.table);
+        fields.push(("table_name", name.map_or(Json::Null, Json::from)));
+    }
+    fields.extend([
         ("page", page),
         ("slot", slot),
         ("key_bytes", step.key_len.into()),
         ("old_bytes", step.old_len.into()),
         ("new_bytes", step.new_len.into()),
-    ];
+    ]);
     if start.payload {
         let (before, after) = walk::tuples(&log.bytes, step);
         fields.push(("before", tuple::fields(Tuple::of(before))));
@@ -348,10 +405,10 @@ fn sum(parsed: &Parsed, output: &mut Output, log: &Log, start: &Start) -> Result
         Ok(())
     })?;
     if parsed.flag("--json") {
-        let stats = vec![("stats", stats.fields())];
+        let stats = vec![("stats", stats.fields(start.names()))];
         return end_json(parsed, output, log, start, &walked, stats);
     }
     output.line(log.line())?;
-    stats.tell(output)?;
+    stats.tell(output, start.names())?;
     end_text(output, log, start, &walked)
 }

@@ -9,6 +9,8 @@ mod replay;
 mod report;
 mod row;
 mod rows;
+mod table;
+mod tables;
 mod verify;
 
 use library::refusal::NO_SUCH_PAGE;
@@ -28,6 +30,8 @@ pub const ALL: &[Command] = &[
     pages::COMMAND,
     rows::COMMAND,
     row::COMMAND,
+    tables::COMMAND,
+    table::COMMAND,
     freemap::COMMAND,
     report::COMMAND,
     replay::COMMAND,

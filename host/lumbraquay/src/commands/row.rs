@@ -9,6 +9,7 @@ use crate::input::{head_fields, Log, Pages, Read};
 use crate::json::Json;
 use crate::output::Output;
 use crate::show;
+use crate::tuple::state;
 
 pub const COMMAND: Command = Command {
     name: "row",
@@ -57,10 +58,11 @@ fn run(parsed: &Parsed, output: &mut Output) -> Result<(), Failure> {
     if row.filled == 0 {
         return output.line(format_args!("page {page} slot {slot}: no row"));
     }
-    let deleted = if row.deleted == 1 { "deleted" } else { "live" };
     output.line(format_args!(
-        "page {page} slot {slot}: {deleted}, xmin {}, xmax {}",
-        row.xmin, row.xmax
+        "page {page} slot {slot}: {}, xmin {}, xmax {}",
+        state(row.deleted == 1, row.xmax),
+        row.xmin,
+        row.xmax
     ))?;
     output.line(format_args!(
         "payload of {} bytes, at offset {} of the {}: {}",

@@ -29,6 +29,9 @@ pub const COMMAND: Command = Command {
 };
 
 fn run(parsed: &Parsed, output: &mut Output) -> Result<(), Failure> {
+    if parsed.flag("--all") && parsed.flag("--quiet") {
+        return Err(parsed.wrong("--quiet does not go with --all".to_string()));
+    }
     let pages = Pages::read(parsed)?;
     let verdict = library::verify(pages.magic, &pages.bytes);
     if parsed.flag("--all") && fault::bad_page(verdict).is_some() {
@@ -73,7 +76,10 @@ fn list(
     pages: &Pages,
     verdict: Verdict,
 ) -> Result<(), Failure> {
-    let read = Read::pages(pages);
+    let read = Read {
+        all_listed: true,
+        ..Read::pages(pages)
+    };
     if parsed.flag("--json") {
         let bad = bad_pages(pages).map(|(_, verdict)| bad_fields(pages, verdict));
         let mut fields = head_fields(parsed, "refused", verdict);

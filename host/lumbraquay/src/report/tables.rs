@@ -5,7 +5,7 @@ use std::collections::BTreeMap;
 use crate::changes::Change;
 use crate::mended::Mended;
 use crate::show;
-use crate::tuple::Tuple;
+use crate::tuple::{state, Tuple};
 
 use super::safe;
 
@@ -27,17 +27,12 @@ fn row(tuple: Option<Tuple>) -> String {
         return "<td class=\"none\">no row</td>".to_string();
     };
     let payload = safe(&show::payload(tuple.payload(), SHOWN));
-    let (class, state) = match tuple.is_deleted() {
-        true => (
-            "row deleted",
-            format!("deleted, xmin {}, xmax {}", tuple.xmin(), tuple.xmax()),
-        ),
-        false => (
-            "row",
-            format!("xmin {}, xmax {}", tuple.xmin(), tuple.xmax()),
-        ),
+    let (xmin, xmax) = (tuple.xmin(), tuple.xmax());
+    let (class, words) = match state(tuple.is_deleted(), xmax) {
+        "live" => ("row", String::new()),
+        other => ("row deleted", format!("{other}, ")),
     };
-    format!("<td class=\"{class}\"><code>{payload}</code><small>{state}</small></td>")
+    format!("<td class=\"{class}\"><code>{payload}</code><small>{words}xmin {xmin}, xmax {xmax}</small></td>")
 }
 
 /// Each changed row before and after.

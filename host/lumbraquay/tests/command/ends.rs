@@ -29,9 +29,12 @@ fn every_end_has_a_result() {
     for words in [
         "verify outage.pages",
         "rows outage.pages",
+        "tables outage.pages",
+        "table outage.pages 14",
         "freemap outage.pages",
         "log outage.log",
         "log outage.log --stats",
+        "log outage.log --catalog outage.pages",
         "pages outage.pages",
         "row outage.pages outage.log 1 1",
         "report outage.pages outage.log",
@@ -106,7 +109,7 @@ fn large_numbers_are_exact() {
     assert_eq!(entries[1].text("page_text"), "18446744073709551615");
     assert_eq!(entries[1].number("transaction"), u64::MAX);
     let rows = sandbox.say("rows pages --json").done();
-    assert!(rows.out.contains("\"xmin\":18446744073709551614,\"xmin_text\":\"18446744073709551614\",\"xmax\":0,\"payload\""));
+    assert!(rows.out.contains("\"xmin\":18446744073709551614,\"xmin_text\":\"18446744073709551614\",\"xmax\":0,\"deleted\":false,\"payload\""));
 }
 
 /// A page with one row of this payload.

@@ -30,6 +30,13 @@ fn verify_counts_the_types() {
     assert_eq!(done.at("types").number("data"), 2);
 }
 
+/// The rows that are shown, each by page, slot, length and offset in the pages.
+fn places(told: &Value) -> Vec<[u64; 4]> {
+    let names = ["page", "slot", "length", "offset"];
+    let rows = told.list("rows").iter();
+    rows.map(|row| names.map(|name| row.number(name))).collect()
+}
+
 /// Row by row as the library finds them.
 #[test]
 fn rows_are_the_librarys() {
@@ -40,7 +47,9 @@ fn rows_are_the_librarys() {
         let words = format!("rows pages --json --magic {:#x}", case.magic);
         let done = sandbox.say(&words).done().json();
         let mut from = (0, 0);
+        assert_eq!(done.text("shown"), "visible");
         for row in done.list("rows") {
+            assert_eq!((row.number("xmax"), row.flag("deleted")), (0, false));
             let found = library::next_visible(case.magic, &case.pages, from.0, from.1);
             let told = ["page", "slot", "length", "offset"].map(|name| row.number(name));
             assert_eq!(
@@ -57,6 +66,102 @@ fn rows_are_the_librarys() {
         assert_eq!(after.found, 0, "seed {}", case.seed);
     }
     assert!(listed > 200, "{listed}");
+}
+
+/// Those that are passed over: the second program's, by page too.
+#[test]
+fn cancelled_rows_are_the_second_programs() {
+    let sandbox = Sandbox::new();
+    let (mut stamped, mut deleted) = (0, 0);
+    for case in good_cases(0..150) {
+        sandbox.write("pages", &case.pages);
+        let mut numbers = vec![0; 4 * 40 * 582];
+        let expected = oracle::list_cancelled(case.magic, &case.pages, 0, 0, &mut numbers);
+        let rows = numbers.chunks_exact(4).take(expected.count as usize);
+        let rows: Vec<[u64; 4]> = rows.map(|row| row.try_into().unwrap()).collect();
+        let say = |words: String| {
+            let words = format!("rows pages --json --magic {:#x}{words}", case.magic);
+            sandbox.say(&words).done().json()
+        };
+        assert_eq!(say(String::new()).number("cancelled"), expected.count);
+        let told = say(" --cancelled".to_string());
+        assert_eq!(told.text("shown"), "cancelled");
+        assert_eq!(told.number("cancelled"), expected.count);
+        assert_eq!(places(&told), rows, "seed {}", case.seed);
+        for row in told.list("rows") {
+            assert!(row.flag("deleted") || row.number("xmax") != 0);
+            stamped += u64::from(!row.flag("deleted"));
+            deleted += u64::from(row.number("xmax") == 0);
+        }
+        let mut own = rows;
+        own.retain(|row| row[0] == 0);
+        let told = say(" --cancelled --page 0".to_string());
+        assert_eq!(told.number("cancelled"), own.len() as u64);
+        assert_eq!(places(&told), own);
+    }
+    assert!(stamped > 50 && deleted > 20, "{stamped} {deleted}");
+}
+
+#[test]
+fn cancelled_rows_in_words() {
+    let sandbox = Sandbox::with_outage();
+    sandbox
+        .say("rows outage.pages")
+        .done()
+        .says(&["6 visible rows\n0 rows passed over as cancelled\n"]);
+    sandbox
+        .say("rows outage.pages --cancelled")
+        .done()
+        .says(&["0 cancelled rows\n"]);
+    sandbox.say("recover outage.pages outage.log").done();
+    sandbox
+        .say("rows outage.pages.recovered --limit 1")
+        .done()
+        .says(&["1 of 6 visible rows\n1 row passed over as cancelled; --cancelled lists it\n"]);
+
+    // Orders 1001 and 1004 as an older release of the portal cancelled them.
+    let mut pages = sandbox.read("outage.pages.recovered");
+    for (page, slot) in [(1, 0), (2, 0)] {
+        let page = &mut pages[page * PAGE_BYTES..][..PAGE_BYTES];
+        let start = 64
+            + usize::from(u16::from_le_bytes([
+                page[64 + 4 * slot],
+                page[65 + 4 * slot],
+            ]));
+        page[start + 8] = 12;
+        let crc = oracle::crc32c(&page[64..]);
+        page[12..16].copy_from_slice(&crc.to_le_bytes());
+    }
+    sandbox.write("stamped.pages", &pages);
+    let rows = sandbox.say("rows stamped.pages").done();
+    let rows =
+        rows.says(&["4 visible rows\n3 rows passed over as cancelled; --cancelled lists them\n"]);
+    assert!(!rows.out.contains("order 1001") && !rows.out.contains("order 1004"));
+    sandbox
+        .say("rows stamped.pages --cancelled")
+        .done()
+        .says(&[
+            "  page   slot  length      xmin      xmax  deleted  payload\n",
+            "     1      0      63         3        12        0  \"order 1001: 6 ramshorn hooks for Quay 1\"\n",
+            "     1      2      61         4        10        1  \"order 1003: 8 rail buffers for Quay 2\"\n",
+            "3 cancelled rows\n",
+        ]);
+    sandbox
+        .say("rows stamped.pages --cancelled --page 2")
+        .done()
+        .says(&["order 1004", "1 cancelled row\n"]);
+    sandbox
+        .say("rows stamped.pages --cancelled --limit 2")
+        .done()
+        .says(&["2 of 3 cancelled rows\n"]);
+    sandbox
+        .say("rows stamped.pages --cancelled --limit 3")
+        .done()
+        .says(&["\n3 cancelled rows\n"]);
+    sandbox
+        .say("row stamped.pages outage.log 2 0 --log-until 32 --floor 1000")
+        .done()
+        .says(&["page 2 slot 0: cancelled, deleted byte 0, xmin 4, xmax 12\n"]);
 }
 
 #[test]
@@ -79,7 +184,7 @@ fn rows_may_be_few() {
     sandbox
         .say("rows outage.pages --limit 1")
         .done()
-        .says(&["order 1001", "1 visible row\n"]);
+        .says(&["order 1001", "1 of 6 visible rows\n"]);
 
     // A row that is recovered as deleted is no longer listed.
     sandbox.say("recover outage.pages outage.log").done();
@@ -172,7 +277,7 @@ fn row_in_words() {
         "payload of 39 bytes, at offset 32729 of the pages: \"order 1001: 6 ramshorn hooks for Quay 1\"\n",
     ]);
     row("1 2").says(&[
-        "page 1 slot 2: deleted, xmin 4, xmax 10\n",
+        "page 1 slot 2: cancelled, deleted byte 1, xmin 4, xmax 10\n",
         "of the log: \"order 1003",
     ]);
     row("2 2").says(&["page 2 slot 2: no row\n"]);

@@ -367,7 +367,7 @@ fn standard_input_and_output() {
     assert!(sandbox.read("piped") == new);
     let report = String::from_utf8(sandbox.read("report")).unwrap();
     assert_eq!(Value::read(&report).unwrap().text("written_to"), "-");
-    for words in ["verify -", "pages -", "rows -", "freemap -"] {
+    for words in ["verify -", "pages -", "rows -", "tables -", "freemap -"] {
         let done = sandbox
             .shell(&format!("\"$LQ\" {words} < outage.pages"))
             .done();

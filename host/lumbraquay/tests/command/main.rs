@@ -18,5 +18,6 @@ mod refusals;
 mod replay;
 mod report;
 mod sandbox;
+mod tables;
 mod tools;
 mod usage;

@@ -159,8 +159,14 @@ fn listings_refuse_too() {
         let case = case_of(mutation);
         let aim = case.aim.expect("an aim");
         let sandbox = sandbox_of(&case);
-        for command in ["verify", "rows", "freemap"] {
-            let words = format!("{command} pages --magic {:#x}", case.magic);
+        for command in [
+            "verify pages",
+            "rows pages",
+            "tables pages",
+            "table pages 14",
+            "freemap pages",
+        ] {
+            let words = format!("{command} --magic {:#x}", case.magic);
             assert_told(sandbox.say(&words), aim.number, aim.place);
             assert_told_as_json(
                 sandbox.say(&format!("{words} --json")),
@@ -372,9 +378,13 @@ fn every_bad_page_is_listed() {
          3  17 PAGE_ID             id 1, which should be 3; type 4 free, LSN 12, its checksum is right\n\
          3 of 4 pages are not good\n"
     );
+    assert!(!done.err.contains("verify --all"));
+    sandbox
+        .say("verify bad")
+        .refuses(&["; `verify --all` lists every bad page\n"]);
     sandbox
         .say("verify bad --all --quiet")
-        .refuses(&["refused: 18"]);
+        .fails(&["--quiet does not go with --all"]);
     sandbox
         .say("verify outage.pages --all")
         .done()
@@ -420,6 +430,44 @@ fn every_bad_page_is_listed() {
                 .filter(|it| matches!(it.number, 11 | 17..=19))
                 .count()
     );
+}
+
+/// Pages are judged by the magic of page 0, which may be the one that is damaged.
+#[test]
+fn page_0_may_have_the_wrong_magic() {
+    let sandbox = Sandbox::with_outage();
+    let good = sandbox.read("outage.pages");
+    let flip = |page: usize| {
+        let mut pages = good.clone();
+        pages[page * 16_384] ^= 1;
+        sandbox.write("bad", &pages);
+    };
+    let doubt = "page 0's own magic may be the wrong one";
+    let others = format!(
+        "{doubt}: every other page has 0x313053454e415243, so try `verify --magic 0x313053454e415243`"
+    );
+    flip(0);
+    for words in ["verify bad", "verify bad --all", "rows bad"] {
+        sandbox
+            .say(words)
+            .refuses(&["refused: 11 PAGE_MAGIC_OR_TYPE at page 1", &others]);
+    }
+    let told = sandbox.say("verify bad --all --json").ends(3).json();
+    assert!(told.text("advice").ends_with(&others));
+    assert_eq!(told.list("bad_pages").len(), 3);
+    let given = sandbox.say("verify bad --all --magic 0x313053454e415243");
+    let given = given.refuses(&["refused: 11 PAGE_MAGIC_OR_TYPE at page 0"]);
+    assert!(given.out.contains("1 of 4 pages are not good\n") && !given.err.contains(doubt));
+
+    // Another page differs, and the rest have that of page 0.
+    flip(2);
+    sandbox.say("verify bad").refuses(&[
+        "refused: 11 PAGE_MAGIC_OR_TYPE at page 2",
+        &format!("{doubt} instead\n"),
+    ]);
+    let given = sandbox.say("verify bad --magic 0x313053454e415243");
+    let given = given.refuses(&["refused: 11 PAGE_MAGIC_OR_TYPE at page 2"]);
+    assert!(!given.err.contains(doubt));
 }
 
 const MAGIC: u64 = u64::from_le_bytes(*b"CRANES01");

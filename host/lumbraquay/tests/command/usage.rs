@@ -2,8 +2,9 @@
 
 use crate::sandbox::Sandbox;
 
-const COMMANDS: [&str; 10] = [
-    "demo", "recover", "verify", "log", "pages", "rows", "row", "freemap", "report", "replay",
+const COMMANDS: [&str; 12] = [
+    "demo", "recover", "verify", "log", "pages", "rows", "row", "tables", "table", "freemap",
+    "report", "replay",
 ];
 
 #[test]

@@ -1,7 +1,10 @@
 //! Rows read before recovery, visible rows and the map of free pages.
 
 use crate::common::*;
-use oracle::{free_map, next_visible, read_row, FreeMap, Row, Visible, PAGE_BYTES};
+use oracle::{
+    free_map, list_cancelled, list_visible, next_visible, read_row, FreeMap, Listing, Row, Visible,
+    PAGE_BYTES,
+};
 
 fn row_at(pages: &[u8], log: &[u8], page: u64, slot: u16) -> Row {
     read_row(MAGIC, 0, pages, log, page, slot)
@@ -143,6 +146,55 @@ fn visible_rows_in_order() {
     assert_eq!(next(4, 1), ([0, 0, 0], 0, 0));
     assert_eq!(next(5, 0), ([0, 0, 0], 0, 0));
     assert_eq!(next(u64::MAX, u16::MAX), ([0, 0, 0], 0, 0));
+}
+
+/// A tuple of 24 bytes with an xmax and a deleted byte; its xmin and its pad bytes are not 0.
+fn with_state(xmax: u64, deleted: u8) -> Option<Vec<u8>> {
+    let mut tuple = tuple(24, 1);
+    tuple[8..16].copy_from_slice(&xmax.to_le_bytes());
+    tuple[16] = deleted;
+    Some(tuple)
+}
+
+#[test]
+fn visible_where_deleted_byte_and_xmax_are_0() {
+    let slots = [
+        with_state(7, 0),
+        with_state(0, 1),
+        with_state(7, 1),
+        with_state(0, 0),
+        None,
+        with_state(1 << 56, 0),
+        with_state(1, 0),
+    ];
+    let pages = data_page(0, 0, &slots);
+    let found = |from| {
+        let row = next_visible(MAGIC, &pages, 0, from);
+        (row.found, row.slot)
+    };
+    assert_eq!((found(0), found(3), found(4)), ((1, 3), (1, 3), (0, 0)));
+
+    let mut rows = [9; 4];
+    let listed = list_visible(MAGIC, &pages, 0, 0, &mut rows);
+    assert_eq!((listed.count, listed.page, listed.slot), (1, 1, 0));
+    assert_eq!(rows, [0, 3, 24, 16_384 - 4 * 24]);
+
+    // The others are cancelled; an empty slot is neither.
+    let mut rows = [9; 18];
+    let listed = list_cancelled(MAGIC, &pages, 0, 0, &mut rows);
+    assert_eq!((listed.count, listed.page, listed.slot), (4, 0, 6));
+    let slots: Vec<u64> = rows.chunks_exact(4).map(|row| row[1]).collect();
+    assert_eq!((slots, &rows[16..]), (vec![0, 1, 2, 5], &[9, 9][..]));
+    let listed = list_cancelled(MAGIC, &pages, 0, 6, &mut rows);
+    assert_eq!((listed.count, listed.page, rows[1]), (1, 1, 6));
+
+    let mut rows = [9; 4];
+    let refusal = Listing {
+        number: 11,
+        ..Listing::default()
+    };
+    assert_eq!(list_cancelled(MAGIC ^ 1, &pages, 0, 0, &mut rows), refusal);
+    assert_eq!(rows, [9; 4]);
 }
 
 #[test]

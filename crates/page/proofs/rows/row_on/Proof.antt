@@ -6,13 +6,13 @@ use Rattle.page.proofs.rows.row_on.Statement.{statement}
 use Rattle.page.proofs.rows.row_on.Tie as tie
 
 returns : tie.Need-returns
-returns c = page-other _ _ _ (omega arith)
+returns c = page-other _ _ _ _ (omega arith)
 
 row-of-requires : tie.Need-row-of-requires
 row-of-requires c κs = let s = c .before .before .before in (s .pre .0, (s .pre .1 .0 (omega arith), s .pre .1 .1))
 
 returns-2 : tie.Need-returns-2
-returns-2 c = c .row-of .ensures ∙ page-data _ _ _ (omega arith)
+returns-2 c = c .row-of .ensures ∙ page-data _ _ _ _ (omega arith)
 
 pub row-on-spec : {M : Type 1} → statement M
 row-on-spec = tie.close (tie.spec (λ c κs. search needs) returns row-of-requires returns-2)

@@ -1,0 +1,5 @@
+pub mod Forms
+pub mod Writing
+pub mod ReadBack
+pub mod Searching
+pub mod Examples
