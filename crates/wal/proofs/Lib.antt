@@ -3,6 +3,7 @@ pub mod WalkLaws
 pub mod Backward
 pub mod Places
 pub mod Prefix
+pub mod Known
 pub mod Cuts
 pub mod Encoding
 pub mod ReaderLaws

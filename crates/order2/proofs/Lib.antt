@@ -1,0 +1,6 @@
+pub mod Gathering
+pub mod Tellings
+pub mod Wrongs
+pub mod Scans
+pub mod Joining
+pub mod Passing
