@@ -30,7 +30,7 @@ use Rattle.order2.specs.declared.Block.{Block}
 use Rattle.order2.proofs.Gathering.{places-from, places-to}
 
 -- an index is sorted by the transaction number of the entry at a place
-number-said : (s : List ℕ) (x : ℕ) → number s x ≡ said s x .txn
+pub number-said : (s : List ℕ) (x : ℕ) → number s x ≡ said s x .txn
 unfolding number entryOf view
 number-said s x = refl
 
@@ -50,7 +50,7 @@ module _ (s : List ℕ) (f : Entry → Bool) (t : ℕ) (ft : Entry → Bool) (ow
       (λ x h. places-from s f m x h)
       (λ x p e. places-to s f m x (p .1 .met) (p .0) (p .1 .holds))
 
-  found : (q ≡ 0 → ⊥) → (q < stop) × Here s (λ xs e. ft e ≡ true) q
+  pub found : (q ≡ 0 → ⊥) → (q < stop) × Here s (λ xs e. ft e ≡ true) q
   found n =
       let w = first-place .found n in
       let h = w .0 .1 in
@@ -63,7 +63,7 @@ module _ (s : List ℕ) (f : Entry → Bool) (t : ℕ) (ft : Entry → Bool) (ow
       let x : P p = (l, record { met = n; stands = h; holds = b .0 }) in
       ((λ e. first-place .none e p x z), first-place .least p x z)
 
-  firstly : FirstOf (λ xs e. ft e ≡ true) (entries s) 32 stop (pick (eqb q 0) stop q)
+  pub firstly : FirstOf (λ xs e. ft e ≡ true) (entries s) 32 stop (pick (eqb q 0) stop q)
   firstly =
       first-zero
       (λ n. let h = found n .1 in (found n .0, record { xs = before s q; e = said s q; ys = onward s (q + lengthAt s q); split = split-at s (h .met) (h .stands); place = place-is s (h .met); holds = h .holds }))
@@ -72,7 +72,7 @@ module _ (s : List ℕ) (f : Entry → Bool) (t : ℕ) (ft : Entry → Bool) (ow
   told-before : {at : ℕ} → Met s at → at ≤ stop → any ft (before s at) ≡ isBefore q at
   told-before {at} n l = told-at s (tells-of ft firstly) n l ∙ zero-test q stop at l
 
-own-end : (t : ℕ) (e : Entry) → isEnding t e ≡ both (isEnd e) (eqb (e .txn) t)
+pub own-end : (t : ℕ) (e : Entry) → isEnding t e ≡ both (isEnd e) (eqb (e .txn) t)
 own-end t e = go (eqb (e .kind) commit) (eqb (e .kind) rollback) (eqb (e .txn) t)
   where
     go : (a b c : Bool) → either (both a c) (both b c) ≡ both (either a b) c

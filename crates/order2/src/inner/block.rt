@@ -12,8 +12,6 @@ ghost use Rattle.rules.specs.Shape.{either};
 ghost use Rattle.rules.specs.Order.{begun, isOpen};
 ghost use Rattle.order2.specs.First.{reach};
 ghost use Rattle.order2.specs.Blocks.{topNumber, Gathered, Blocked, inBlock, isBefore, Telling, rightIn, FirstWrong, everyNumber};
-use change::inner::is_change;
-use change::CHECKPOINT;
 use crate::BEGIN;
 use crate::Block;
 use crate::COMMIT;
@@ -21,6 +19,8 @@ use crate::Holding;
 use crate::ROLLBACK;
 use crate::TOP;
 use crate::Tested;
+use change::CHECKPOINT;
+use change::inner::is_change;
 use endian::TxnNumber;
 use index::inner::build;
 use index::inner::collect::Held;
@@ -33,7 +33,7 @@ use wal::Reading;
 use wal::inner::known_at;
 
 // Whether an entry of this type ends a transaction.
-fn is_end(kind: u8) -> bool
+pub fn is_end(kind: u8) -> bool
     ensures { λ r. ⌜ r ≡ either (eqb kind commit) (eqb kind rollback) ⌝ }
 {
     if kind == COMMIT {
@@ -117,7 +117,14 @@ fn lesser(x: TxnNumber, y: TxnNumber) -> TxnNumber
 }
 
 // Makes a block of what was collected.
-fn settle(log: &[u8], begins: &mut [u32], ends: &mut [u32], lo: TxnNumber, stop: usize, held: Holding) -> Block
+fn settle(
+    log: &[u8],
+    begins: &mut [u32],
+    ends: &mut [u32],
+    lo: TxnNumber,
+    stop: usize,
+    held: Holding,
+) -> Block
     requires { ⌜ Met (now log) stop ⌝ }
     requires { ⌜ Gathered (now log) (lo .0) stop held (now begins) (now ends) ⌝ }
     ensures { λ r. ⌜ (r .stop ≡ stop) × (r .lo .0 ≡ lo .0) ⌝ }
@@ -224,11 +231,30 @@ fn right(
     if t.0 == 0 {
         return is_change(v.kind);
     }
-    in_turn(log, at, v.kind, t, lo, hi, stop, begins, ends, nearBegins, nearEnds)
+    in_turn(
+        log,
+        at,
+        v.kind,
+        t,
+        lo,
+        hi,
+        stop,
+        begins,
+        ends,
+        nearBegins,
+        nearEnds,
+    )
 }
 
 // The place of the first entry before stop that is out of order and has a number of the block, or stop.
-fn test(log: &[u8], stop: usize, lo: TxnNumber, hi: TxnNumber, begins: &[u32], ends: &[u32]) -> usize
+fn test(
+    log: &[u8],
+    stop: usize,
+    lo: TxnNumber,
+    hi: TxnNumber,
+    begins: &[u32],
+    ends: &[u32],
+) -> usize
     requires { ⌜ Met (now log) stop ⌝ }
     requires { ⌜ Telling (now log) (lo .0) (hi .0) stop (now begins) (now ends) ⌝ }
     ensures { λ r. ⌜ FirstWrong (now (log .entry)) (inBlock (lo .0) (hi .0)) stop r ⌝ }
@@ -240,7 +266,18 @@ fn test(log: &[u8], stop: usize, lo: TxnNumber, hi: TxnNumber, begins: &[u32], e
         let Reading::Whole(v) = known_at(log, at, stop) else {
             return stop;
         };
-        if !right(log, v, at, lo, hi, stop, begins, ends, &mut nearBegins, &mut nearEnds) {
+        if !right(
+            log,
+            v,
+            at,
+            lo,
+            hi,
+            stop,
+            begins,
+            ends,
+            &mut nearBegins,
+            &mut nearEnds,
+        ) {
             return at;
         }
         at = at + v.length;
@@ -262,7 +299,13 @@ fn tested(log: &[u8], stop: usize, b: Block, begins: &[u32], ends: &[u32]) -> us
 }
 
 // The place of the first entry before stop that is out of order, or stop: block after block, from the one that was collected on.
-pub fn by_blocks(log: &[u8], stop: usize, held: Holding, begins: &mut [u32], ends: &mut [u32]) -> Tested
+pub fn by_blocks(
+    log: &[u8],
+    stop: usize,
+    held: Holding,
+    begins: &mut [u32],
+    ends: &mut [u32],
+) -> Tested
     requires { ⌜ length (now log) < reach ⌝ }
     requires { ⌜ (2 ≤ length (now begins)) × (2 ≤ length (now ends)) ⌝ }
     requires { ⌜ Met (now log) stop ⌝ }
@@ -276,7 +319,10 @@ pub fn by_blocks(log: &[u8], stop: usize, held: Holding, begins: &mut [u32], end
         best = tested(log, best, b, begins, ends);
         let hi = b.hi;
         if hi.0 == TOP {
-            return Tested { place: best, block: b };
+            return Tested {
+                place: best,
+                block: b,
+            };
         }
         b = next_block(log, begins, ends, TxnNumber(hi.0 + 1), best);
     }

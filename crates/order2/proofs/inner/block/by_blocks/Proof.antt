@@ -49,8 +49,7 @@ loop-again c =
     let i = c .before .before .before .before .before .before .before .before .before .before .before .before .before .before .loop .inv in
     let n = c .before .before .before .before .next-block in
     let t = c .before .before .before .before .before .before .before .before .before .before .before .tested in
-    let s = c .before .before .before .before .before .before .before .before .before .before .before .before .before .before .before .before .before .before .before .before .before .before .before .before .before in
-    (
+    let s = c .before .before .before .before .before .before .before .before .before .before .before .before .before .before .before .before .before .before .before .before .before .before .before .before .before in (
       n .kept .1 .0 ∙ i .0,
       n .kept .1 .1 .0 ∙ i .1,
       n .ensures .1,

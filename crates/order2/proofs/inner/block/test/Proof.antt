@@ -51,8 +51,7 @@ loop-again : tie.Need-loop-again Inv-loop μ-loop
 loop-again c =
     let k = behind (c .before .before .before .before .before .before) in
     let l = c .before .before .before .before .before .before .before .before .before .loop in
-    let s = c .before .before .before .before .before .before .before .before .before .before .before .before .before in
-    (
+    let s = c .before .before .before .before .before .before .before .before .before .before .before .before .before in (
       subst (λ (x : ℕ). RightBefore (s .args .log .now) (s .args .lo .0) (s .args .hi .0) (l .at + x)) (sym (k .long))
           (right-next (l .inv .0) (k .stands) (sym (c .before .before .right .ensures) ∙ not-false (c .before .before .right .result) (c .before .if1 .left))),
       k .next,

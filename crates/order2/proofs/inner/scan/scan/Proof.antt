@@ -61,8 +61,7 @@ returns-3 c =
     let s = c .before .before .before .before .before .before .before .before .before .before .before .before .before .before .before .before .before .before .before .before .before .before in
     let w = whole (c .before .before .before .before .before .before .before .before .before .before .before .before .before .before) in
     let t = c .before .before .before .before .before .before .before .take-in in
-    let e = read-length _ _ (l .inv .2) _ w in
-    (
+    let e = read-length _ _ (l .inv .2) _ w in (
       halts-late _ _ (l .inv .2) _ w (sym (c .before .before .before .before .before .before .before .before .before .before .if1 .left) ∙ c .before .before .before .before .before .before .before .before .before .before .before .early-fault .ensures) (c .before .no-record .ensures) (c .if2 .taken) _ refl,
       subst (λ (x : ℕ). Gathered (s .args .log .now) 0 (l .at + x) (t .result) (t .last .1 .0) (t .last .1 .1 .0)) (sym e) (t .ensures),
     )
@@ -83,8 +82,7 @@ loop-again c =
     let w = whole (c .before .before .before .before .before .before .before .before .before .before .before .before .before .before .before .before) in
     let t = c .before .before .before .before .before .before .before .before .before .take-in in
     let n = c .counted in
-    let e = read-length _ _ (l .inv .2) _ w in
-    (
+    let e = read-length _ _ (l .inv .2) _ w in (
       t .kept .1 .0 ∙ l .inv .0,
       t .kept .1 .1 .0 ∙ l .inv .1,
       scanning-next _ _ (l .inv .2) _ w (sym (c .before .before .before .before .before .before .before .before .before .before .before .before .if1 .left) ∙ c .before .before .before .before .before .before .before .before .before .before .before .before .before .early-fault .ensures) (c .before .before .before .no-record .ensures) (c .before .before .if2 .left) _ refl (n .result) (n .ensures .0) (n .ensures .1) (n .ensures .2),

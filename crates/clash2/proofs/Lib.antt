@@ -1,0 +1,5 @@
+pub mod Slots
+pub mod Regions
+pub mod Pages
+pub mod Spans
+pub mod Sweeps
