@@ -2,7 +2,7 @@
 use Prim.Native.Nat.{ℕ, zero, suc, _+_, _-_, _*_, _/_, _%_, _≤_, _<_, _^_}
 use mathlib.Core.Path.{_≡_, refl, sym, ap, _∙_, subst}
 use mathlib.Core.Bool.{Bool, true, false}
-use mathlib.Core.List.{List, [], _∷_, _++_}
+use mathlib.Core.List.{List, _∷_, _++_}
 use native.Mathlib.Omega.{arith}
 use native.Mathlib.Nat.{pow-succ', div-one, div-div-eq-div-mul, one-mul}
 use native.Mathlib.Numerals.{one-add}
@@ -10,7 +10,7 @@ use lib.Pow.{shl-exact}
 use lib.ListN.{length, getD, set, length-set}
 use lib.Seq.{getD-set-same, getD-set-other}
 use lib.Dec.{eqb, lit<}
-use borrow.Author.Tests.{eq-eqb, ne-eqb, eqb-true, eqb-false}
+use borrow.Author.Tests.{eq-eqb, eqb-true, eqb-false}
 use Rattle.endian.specs.Pick.{pick}
 use Rattle.wal.specs.Entry.{Entry, sizesOf}
 use Rattle.wal.specs.Walk.{entries}
@@ -18,9 +18,8 @@ use Rattle.wal.specs.Read.{lengthAt}
 use Rattle.wal.specs.Prefix.{said, before, onward}
 use Rattle.rules.specs.Shape.{isChange}
 use Rattle.rules.specs.Mend.{committed}
-use Rattle.rules.proofs.Tests.{false-true}
 use Rattle.change.specs.Places.{ChangeAt}
-use Rattle.change.specs.Bits.{numberFor, bitIn, weight, bitOf, withBit, Outcomes}
+use Rattle.change.specs.Bits.{numberFor, spanOfByte, bitIn, weight, bitOf, withBit, Outcomes}
 use Rattle.change.proofs.Places.{change-apart, change-size, split-at, met-place}
 
 -- ---- the bits of one number
@@ -89,6 +88,11 @@ module _ (bits : List ℕ) (p : ℕ) (room : numberFor p / 8 < length bits) wher
 pub numbers-apart : {s : List ℕ} {p q : ℕ} → ChangeAt s p → ChangeAt s q → p < q → numberFor p < numberFor q
 unfolding numberFor
 numbers-apart c d h = omega (arith, change-apart c d h, change-size c .2)
+
+-- the bit of a change is one of those that n bytes have, where they span the log
+pub number-within : {s : List ℕ} {p : ℕ} (n : ℕ) → ChangeAt s p → length s ≤ spanOfByte * n → numberFor p / 8 < n
+unfolding numberFor
+number-within n c h = let k = change-size c in omega (arith, k .0, k .1, k .2)
 
 -- ---- told entry by entry
 

@@ -8,16 +8,16 @@ use native.Mathlib.Omega.{arith}
 use lib.ListN.{length, getD, length-append, List·getD-append}
 use lib.Seq.{getD-append-add}
 use Rattle.endian.specs.Pick.{pick, consIf}
-use Rattle.wal.specs.Entry.{Entry, sizeOf, sizesOf, entryOf}
-use Rattle.wal.specs.Read.{lengthAt, view}
+use Rattle.wal.specs.Entry.{Entry, sizeOf, sizesOf}
+use Rattle.wal.specs.Read.{lengthAt}
 use Rattle.wal.specs.Walk.{entries, endOf}
-use Rattle.wal.specs.Prefix.{Met, Stands, entryIn, said, before, onward}
-use Rattle.wal.proofs.Prefix.{Along, start, more, along, stands-at, met-split, met-end, met-below, met-from, before-first, before-next, before-end, onward-next}
+use Rattle.wal.specs.Prefix.{Met, Stands, said, before, onward}
+use Rattle.wal.proofs.Prefix.{Along, start, more, along, stands-at, met-split, met-end, met-below, before-first, before-next, before-end, onward-next}
 use Rattle.wal.proofs.Places.{size-of}
-use Rattle.rules.specs.Shape.{either, isChange, isShaped, isOn, pageOf, slotOf, topOn, lsnOn}
+use Rattle.rules.specs.Shape.{either, isChange, isOn, pageOf, slotOf, topOn, lsnOn}
 use Rattle.rules.specs.Order.{one, count, lastLsn}
 use Rattle.rules.specs.Mend.{topOf, lastOn}
-use Rattle.rules.proofs.OrderLaws.{last-snoc, lsn-le}
+use Rattle.rules.proofs.OrderLaws.{last-snoc}
 use Rattle.rules.proofs.Slots.{top-append, last-append}
 use Rattle.rules.proofs.Tests.{both-true, false-true, either-none}
 use lib.Dec.{eqb}

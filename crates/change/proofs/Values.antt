@@ -10,7 +10,7 @@ use borrow.Author.Tests.{eqb-true, ne-eqb}
 use Rattle.endian.specs.Numbers.{part}
 use Rattle.endian.proofs.Places.{drop-part}
 use Rattle.wal.specs.Entry.{Entry, insert, delete, update, keyPart, oldPart, newPart, entryOf}
-use Rattle.wal.specs.Prefix.{Stands, entryIn, said}
+use Rattle.wal.specs.Prefix.{entryIn, said}
 use Rattle.wal.specs.declared.EntryView.{EntryView}
 use Rattle.wal.proofs.WalkLaws.{EntryAt}
 use Rattle.wal.proofs.Prefix.{stands-at}

@@ -1,7 +1,7 @@
 -- Internal: the outcome bits, one for each change of a log.
 use Prim.Native.Nat.{ℕ, zero, suc, _+_, _-_, _*_, _/_, _%_}
 use mathlib.Core.Path.{_≡_}
-use mathlib.Core.Bool.{Bool, true, false}
+use mathlib.Core.Bool.{Bool}
 use mathlib.Core.List.{List}
 use lib.ListN.{getD, set}
 use lib.Dec.{eqb}
@@ -19,6 +19,10 @@ shortestChange = 77
 -- so each has a number of its own
 unfoldable pub numberFor : ℕ → ℕ
 numberFor p = (p - first) / shortestChange
+
+-- so many bytes of a log have their bits in one byte
+abbrev pub spanOfByte : ℕ
+spanOfByte = 616
 
 -- bit j of a number, the lowest is bit 0, and what that bit counts
 unfoldable pub bitIn : ℕ → ℕ → Bool

@@ -1,5 +1,4 @@
 use native.Mathlib.Omega.{arith}
-use mathlib.Core.Path.{sym, _∙_}
 use Rattle.wal.specs.Entry.{entryOf}
 use Rattle.wal.specs.Read.{view}
 use Rattle.wal.proofs.Prefix.{stands-at}
