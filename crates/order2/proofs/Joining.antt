@@ -29,11 +29,9 @@ use Rattle.firsts.proofs.OrderVerdict.{plain-judged, order-next}
 use Rattle.firsts.proofs.Log.{end-is, log-some}
 use Rattle.order2.specs.First.{told, endNumber, basicFault, basicVerdict, FirstWalk}
 use Rattle.order2.specs.Scanning.{plainVerdict, Sees, Halts, whole, early, late, Scanned, Joined, wrong, others}
-use Rattle.order2.specs.Blocks.{Blocked, FirstWrong, everyNumber}
-use Rattle.order2.specs.declared.Block.{Block}
+use Rattle.order2.specs.Blocks.{FirstWrong, everyNumber}
 use Rattle.order2.specs.declared.Seen.{Seen}
 use Rattle.order2.specs.declared.Scan.{Scan}
-use Rattle.order2.specs.declared.Tested.{Tested}
 use Rattle.order2.specs.declared.Walked.{Walked}
 use Rattle.order2.proofs.Wrongs.{wrong-order}
 
@@ -181,8 +179,8 @@ module _ (full : ℕ → Bool) where
   ends-whole s (late z b h p) x = absurd (omega arith)
 
   -- the first walk's answer
-  pub walked : (s : List ℕ) (c : Scan) (o : Tested) {w : Walked} → Scanned full s (c .number) (c .place) (c .stop) (c .seen) → FirstWrong s everyNumber (c .stop) (o .place) → Joined c o w → FirstWalk full s w
-  walked s c o {w} k f (wrong l a b d) =
+  pub walked : (s : List ℕ) (c : Scan) (r : ℕ) {w : Walked} → Scanned full s (c .number) (c .place) (c .stop) (c .seen) → FirstWrong s everyNumber (c .stop) r → Joined c r w → FirstWalk full s w
+  walked s c r {w} k f (wrong l a b) =
       record {
         met = subst (Met s) (sym b) (f .met);
         tells = ap₂ told a b ∙ join-wrong s (k .met) (k .halts) (wrong-order f) l;
@@ -190,7 +188,7 @@ module _ (full : ℕ → Bool) where
         last = λ z. absurd (omega arith);
         changes = λ z. absurd (omega arith);
       }
-  walked s c o {w} k f (others l a b d g h) =
+  walked s c r {w} k f (others l a b d g) =
       record {
         met = subst (Met s) (sym b) (k .met);
         tells = ap₂ told a b ∙ join-others s (k .halts) (wrong-order f) l;
@@ -204,14 +202,3 @@ module _ (full : ℕ → Bool) where
 
       all : w .number ≡ 0 → before s (c .place) ≡ entries s
       all z = ap (before s) (end z) ∙ before-end s
-
--- the block that stays in the arrays
-pub walked-block : {full : ℕ → Bool} {s : List ℕ} {bs es : List ℕ} (c : Scan) (o : Tested) {w : Walked} → Scanned full s (c .number) (c .place) (c .stop) (c .seen) → Blocked s (o .block) bs es × (o .place ≤ o .block .stop)
-    → FirstWrong s everyNumber (c .stop) (o .place) → Joined c o w → Blocked s (w .block) bs es × (w .place ≤ w .block .stop)
-walked-block {full} {s} {bs} {es} c o {w} k b f (wrong l a p d) = (subst (λ (x : Block). Blocked s x bs es) (sym d) (b .0), omega (arith, b .1, ap (λ (x : Block). x .stop) d))
-walked-block {full} {s} {bs} {es} c o {w} k b f (others l a p d g h) = (subst (λ (x : Block). Blocked s x bs es) (sym h) (b .0), omega (arith, b .1, ap (λ (x : Block). x .stop) h, low (k .halts)))
-  where
-    low : Halts full s (c .number) (c .place) (c .stop) → c .place ≤ c .stop
-    low (whole z e q i) = omega arith
-    low (early z e q i) = omega arith
-    low (late z e q i) = omega arith

@@ -4,3 +4,4 @@ pub mod Wrongs
 pub mod Scans
 pub mod Joining
 pub mod Passing
+pub mod Turnings

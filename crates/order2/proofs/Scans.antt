@@ -100,6 +100,10 @@ module _ (full : ℕ → Bool) (s : List ℕ) where
     unfolding entryOf
     read-kind = ap (λ (u : EntryView). u .kind) read-is
 
+    pub read-number : v .txn .0 ≡ said s at .txn
+    unfolding entryOf
+    read-number = ap (λ (u : EntryView). u .txn .0) read-is
+
     -- what the fault's function asks
     pub read-at : EntryAt s (v .place) v
     read-at = let h = entry-at s at q in subst (λ (x : ℕ). EntryAt s x v) (sym (h .here)) h

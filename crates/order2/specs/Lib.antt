@@ -1,3 +1,4 @@
 pub mod First
 pub mod Scanning
 pub mod Blocks
+pub mod Turns

@@ -18,7 +18,6 @@ use Rattle.firsts.specs.Judge.{verdictFrom, plainFault}
 use Rattle.order2.specs.First.{endNumber}
 use Rattle.order2.specs.declared.Seen.{Seen}
 use Rattle.order2.specs.declared.Scan.{Scan}
-use Rattle.order2.specs.declared.Tested.{Tested}
 use Rattle.order2.specs.declared.Walked.{Walked}
 
 -- refusals 5 to 7 in turn, or 0, by the last LSN
@@ -59,7 +58,7 @@ pub record Scanned (full : ℕ → Bool) (s : List ℕ) (n at stop : ℕ) (w : S
   pub halts : Halts full s n at stop
   pub sees : Sees (before s at) w
 
--- the two searches make the walk's answer: a fault by rule 8 that comes before `stop`, or else that of the other rules
-pub data Joined (s : Scan) (o : Tested) (w : Walked) : Type 0 where
-  wrong : o .place < s .stop → w .number ≡ transactionOrder → w .place ≡ o .place → w .block ≡ o .block → Joined s o w
-  others : s .stop ≤ o .place → w .number ≡ s .number → w .place ≡ s .place → w .last ≡ s .seen .last → w .changes ≡ s .seen .changes → w .block ≡ o .block → Joined s o w
+-- the two searches make the walk's answer: a fault by rule 8 at r that comes before `stop`, or else that of the other rules
+pub data Joined (s : Scan) (r : ℕ) (w : Walked) : Type 0 where
+  wrong : r < s .stop → w .number ≡ transactionOrder → w .place ≡ r → Joined s r w
+  others : s .stop ≤ r → w .number ≡ s .number → w .place ≡ s .place → w .last ≡ s .seen .last → w .changes ≡ s .seen .changes → Joined s r w

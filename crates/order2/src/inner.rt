@@ -5,9 +5,7 @@ ghost use lib.ListN.{length};
 ghost use Rattle.crc32c.specs.Tables.{Tables};
 ghost use Rattle.order2.specs.First.{reach, fullOf, FirstWalk};
 ghost use Rattle.order2.specs.Scanning.{Joined};
-ghost use Rattle.order2.specs.Blocks.{Blocked};
 use crate::Scan;
-use crate::Tested;
 use crate::Walked;
 use crate::inner::block::by_blocks;
 use crate::inner::scan::scan;
@@ -17,19 +15,18 @@ use refusals::TRANSACTION_ORDER;
 
 pub mod block;
 pub mod scan;
+pub mod turn;
 
 // The first fault by rule 8, where it comes before the others, or else theirs.
-fn joined(s: Scan, o: Tested) -> Walked
-    ensures { λ r. ⌜ Joined s o r ⌝ }
+fn joined(s: Scan, place: usize) -> Walked
+    ensures { λ r. ⌜ Joined s place r ⌝ }
 {
-    let block = o.block;
-    if o.place < s.stop {
+    if place < s.stop {
         return Walked {
             number: TRANSACTION_ORDER,
-            place: o.place,
+            place: place,
             last: Lsn(0),
             changes: 0,
-            block: block,
         };
     }
     let seen = s.seen;
@@ -39,7 +36,6 @@ fn joined(s: Scan, o: Tested) -> Walked
         place: s.place,
         last: last,
         changes: seen.changes,
-        block: block,
     }
 }
 
@@ -56,10 +52,11 @@ pub fn walk(
     requires { ⌜ length (now log) < reach ⌝ }
     requires { ⌜ (2 ≤ length (now begins)) × (2 ≤ length (now ends)) ⌝ }
     ensures { λ r. ⌜ FirstWalk (fullOf bounded records) (now (log .entry)) r ⌝ }
-    ensures { λ r. ⌜ Blocked (now (log .entry)) (r .block) (now (begins .exit)) (now (ends .exit)) × (r .place ≤ r .block .stop) ⌝ }
 {
-    let s = scan(t, log, bounded, records, begins, ends);
-    let held = s.held;
-    let o = by_blocks(log, s.stop, held, begins, ends);
-    joined(s, o)
+    let s = scan(t, log, bounded, records);
+    if s.sure {
+        return joined(s, s.stop);
+    }
+    let place = by_blocks(log, s.stop, begins, ends);
+    joined(s, place)
 }

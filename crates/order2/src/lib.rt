@@ -37,27 +37,26 @@ pub struct Seen {
     pub changes: u64,
 }
 
-// Where the checksums and rules 5, 6, 7 and 10 stop a walk, the number of the fault there or 0, and how far rule 8 is to be tested.
+// What a walk knows of the order of transactions: whether every entry so far is known to be in order, and the highest number that began.
+pub struct Turns {
+    pub sure: bool,
+    pub highest: TxnNumber,
+}
+
+// Where the checksums and rules 5, 6, 7 and 10 stop a walk, the number of the fault there or 0, how far rule 8 is to be tested, and
+// whether no entry before that breaks it.
 pub struct Scan {
     pub number: u64,
     pub place: usize,
     pub stop: usize,
     pub seen: Seen,
-    pub held: Holding,
+    pub sure: bool,
 }
 
-// Where rule 8 stops a walk, and the block that was tested last.
-pub struct Tested {
-    pub place: usize,
-    pub block: Block,
-}
-
-// Where the first walk stops, and the number of the fault there or 0; where it is 0, the last LSN and the number of changes; and
-// the block that was tested last.
+// Where the first walk stops, and the number of the fault there or 0; where it is 0, the last LSN and the number of changes.
 pub struct Walked {
     pub number: u64,
     pub place: usize,
     pub last: Lsn,
     pub changes: u64,
-    pub block: Block,
 }

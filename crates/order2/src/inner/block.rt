@@ -18,7 +18,6 @@ use crate::COMMIT;
 use crate::Holding;
 use crate::ROLLBACK;
 use crate::TOP;
-use crate::Tested;
 use change::CHECKPOINT;
 use change::inner::is_change;
 use endian::TxnNumber;
@@ -43,7 +42,7 @@ pub fn is_end(kind: u8) -> bool
 }
 
 // Nothing is collected yet, of any number.
-pub fn nothing() -> Holding
+fn nothing() -> Holding
     ensures { λ r. ⌜ (r .begins .len ≡ 0) × (r .ends .len ≡ 0) × (r .begins .hi .0 ≡ topNumber) × (r .ends .hi .0 ≡ topNumber) ⌝ }
 {
     Holding {
@@ -59,7 +58,7 @@ pub fn nothing() -> Holding
 }
 
 // Takes the entry at a place in, where it is a Begin or an ending.
-pub fn take_in(
+fn take_in(
     log: &[u8],
     begins: &mut [u32],
     ends: &mut [u32],
@@ -298,31 +297,20 @@ fn tested(log: &[u8], stop: usize, b: Block, begins: &[u32], ends: &[u32]) -> us
     test(log, stop, lo, hi, &begins[..n], &ends[..m])
 }
 
-// The place of the first entry before stop that is out of order, or stop: block after block, from the one that was collected on.
-pub fn by_blocks(
-    log: &[u8],
-    stop: usize,
-    held: Holding,
-    begins: &mut [u32],
-    ends: &mut [u32],
-) -> Tested
+// The place of the first entry before stop that is out of order, or stop: block after block.
+pub fn by_blocks(log: &[u8], stop: usize, begins: &mut [u32], ends: &mut [u32]) -> usize
     requires { ⌜ length (now log) < reach ⌝ }
     requires { ⌜ (2 ≤ length (now begins)) × (2 ≤ length (now ends)) ⌝ }
     requires { ⌜ Met (now log) stop ⌝ }
-    requires { ⌜ Gathered (now log) 0 stop held (now begins) (now ends) ⌝ }
-    ensures { λ r. ⌜ FirstWrong (now (log .entry)) everyNumber stop (r .place) ⌝ }
-    ensures { λ r. ⌜ Blocked (now (log .entry)) (r .block) (now (begins .exit)) (now (ends .exit)) × (r .place ≤ r .block .stop) ⌝ }
+    ensures { λ r. ⌜ FirstWrong (now (log .entry)) everyNumber stop r ⌝ }
 {
     let mut best = stop;
-    let mut b = settle(log, begins, ends, TxnNumber(0), stop, held);
+    let mut b = next_block(log, begins, ends, TxnNumber(0), stop);
     loop {
         best = tested(log, best, b, begins, ends);
         let hi = b.hi;
         if hi.0 == TOP {
-            return Tested {
-                place: best,
-                block: b,
-            };
+            return best;
         }
         b = next_block(log, begins, ends, TxnNumber(hi.0 + 1), best);
     }

@@ -1,5 +1,6 @@
 // The walk with checksums and rules 5, 6, 7 and 10, which collects what rule 8 is tested with.
 ghost use mathlib.Core.Path.{_≡_};
+ghost use mathlib.Core.Bool.{true};
 ghost use Prim.Native.Nat.{_+_, _^_, _≤_, _<_};
 ghost use lib.ListN.{length};
 ghost use lib.Dec.{eqb};
@@ -10,13 +11,13 @@ ghost use Rattle.rules.specs.Shape.{both, isKnown, isChanging};
 ghost use Rattle.rules.specs.Order.{one};
 ghost use Rattle.order2.specs.First.{reach, fullOf, endNumber};
 ghost use Rattle.order2.specs.Scanning.{earlyFault, Scanned};
-ghost use Rattle.order2.specs.Blocks.{Gathered};
+ghost use Rattle.order2.specs.Blocks.{FirstWrong, everyNumber};
 use crate::BEGIN;
-use crate::Holding;
 use crate::Scan;
 use crate::Seen;
-use crate::inner::block::nothing;
-use crate::inner::block::take_in;
+use crate::Turns;
+use crate::inner::turn::TURNS;
+use crate::inner::turn::turn;
 use change::inner::is_change;
 use change::shape::shaped;
 use crc32c::inner::Tables;
@@ -114,19 +115,11 @@ fn counted(w: Seen, lsn: Lsn, kind: u8) -> Seen
 }
 
 // The walk.
-pub fn scan(
-    t: &Tables,
-    log: &[u8],
-    bounded: bool,
-    records: u64,
-    begins: &mut [u32],
-    ends: &mut [u32],
-) -> Scan
+pub fn scan(t: &Tables, log: &[u8], bounded: bool, records: u64) -> Scan
     requires { ⌜ Tables (now t) ⌝ }
     requires { ⌜ length (now log) < reach ⌝ }
-    requires { ⌜ (2 ≤ length (now begins)) × (2 ≤ length (now ends)) ⌝ }
     ensures { λ r. ⌜ Scanned (fullOf bounded records) (now (log .entry)) (r .number) (r .place) (r .stop) (r .seen) ⌝ }
-    ensures { λ r. ⌜ Gathered (now (log .entry)) 0 (r .stop) (r .held) (now (begins .exit)) (now (ends .exit)) ⌝ }
+    ensures { λ r. ⌜ (r .sure ≡ true → FirstWrong (now (log .entry)) everyNumber (r .stop) (r .stop)) ⌝ }
 {
     let mut at = FIRST;
     let mut seen = Seen {
@@ -134,7 +127,11 @@ pub fn scan(
         begins: 0,
         changes: 0,
     };
-    let mut held = nothing();
+    let mut turns = Turns {
+        sure: true,
+        highest: TxnNumber(0),
+    };
+    let mut opens = [0u32; TURNS];
     loop {
         let found = entry_at(t, log, at);
         let Reading::Whole(v) = found else {
@@ -144,7 +141,7 @@ pub fn scan(
                 place: at,
                 stop: at,
                 seen: seen,
-                held: held,
+                sure: turns.sure,
             };
         };
         let last = seen.last;
@@ -155,10 +152,10 @@ pub fn scan(
                 place: at,
                 stop: at,
                 seen: seen,
-                held: held,
+                sure: turns.sure,
             };
         }
-        held = take_in(log, begins, ends, TxnNumber(0), held, at, v.kind);
+        turns = turn(log, at, v.kind, v.txn, turns, &mut opens);
         let next = at + v.length;
         if no_record(bounded, records, seen.begins, v.kind) {
             return Scan {
@@ -166,7 +163,7 @@ pub fn scan(
                 place: at,
                 stop: next,
                 seen: seen,
-                held: held,
+                sure: turns.sure,
             };
         }
         let lsn = v.lsn;

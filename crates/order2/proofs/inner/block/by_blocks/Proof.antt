@@ -16,14 +16,11 @@ Inv-loop log stop begins₀ ends₀ best₀ b₀ begins ends best b = (length be
 abbrev μ-loop : tie.MeasureT-loop
 μ-loop log stop begins₀ ends₀ best₀ b₀ begins ends best b = topNumber - b .lo .0
 
-settle-requires : tie.Need-settle-requires Inv-loop μ-loop
-settle-requires c κs = c .before .before .before .before .before .pre .1 .1
-
 loop-holds : tie.Need-loop-holds Inv-loop μ-loop
 loop-holds c =
-    let t = c .before .before .before .before .settle in
+    let t = c .before .before .before .before .next-block in
     let s = c .before .before .before .before .before .before .before .before .before .before in
-    (refl, refl, t .ensures .1, omega (arith, t .ensures .0 .0), subst (λ x. FirstWrong (s .args .log .now) (below x) (s .args .stop) (s .args .stop)) (sym (t .ensures .0 .1)) (wrong-start (s .args .stop) (s .pre .1 .1 .0)))
+    (refl, refl, t .ensures .1, omega (arith, t .ensures .0 .0), subst (λ x. FirstWrong (s .args .log .now) (below x) (s .args .stop) (s .args .stop)) (sym (t .ensures .0 .1)) (wrong-start (s .args .stop) (s .pre .1 .1)))
 
 tested-requires : tie.Need-tested-requires Inv-loop μ-loop
 tested-requires c κs = let i = c .before .before .loop .inv in (i .4 .met, (i .3, i .2))
@@ -32,22 +29,22 @@ returns : tie.Need-returns Inv-loop μ-loop
 returns c =
     let i = c .before .before .before .before .before .before .loop .inv in
     let t = c .before .before .before .tested in
-    (wrong-last _ _ (i .4) (t .ensures) (c .if1 .taken), (i .2, omega (arith, t .ensures .is .low, i .3)))
+    wrong-last _ _ (i .4) (t .ensures) (c .if1 .taken)
 
-next-block-requires : tie.Need-next-block-requires Inv-loop μ-loop
-next-block-requires c κs =
+next-block-requires-2 : tie.Need-next-block-requires-2 Inv-loop μ-loop
+next-block-requires-2 c κs =
     let i = c .before .before .before .before .before .before .before .before .before .loop .inv in
     let s = c .before .before .before .before .before .before .before .before .before .before .before .before .before .before .before .before .before .before .before .before in
-    let t = c .before .before .before .before .before .before .before .before .before .before .before .before .before .before .settle in
+    let t = c .before .before .before .before .before .before .before .before .before .before .before .before .before .before .next-block in
     (s .pre .0, ((omega (arith, i .0, t .kept .1 .0, s .pre .1 .0 .0), omega (arith, i .1, t .kept .1 .1 .0, s .pre .1 .0 .1)), c .before .before .before .before .before .before .tested .ensures .met))
 
 loop-less : tie.Need-loop-less Inv-loop μ-loop
-loop-less c = let b = c .before .before .before .before .next-block .ensures .0 .1 in omega (arith, b, c .before .before .before .before .before .before .before .before .before .before .before .before .before .before .loop .inv .2 .range, c .before .before .before .before .before .before .before .before .if1 .left)
+loop-less c = let b = c .before .before .before .before .next-block2 .ensures .0 .1 in omega (arith, b, c .before .before .before .before .before .before .before .before .before .before .before .before .before .before .loop .inv .2 .range, c .before .before .before .before .before .before .before .before .if1 .left)
 
 loop-again : tie.Need-loop-again Inv-loop μ-loop
 loop-again c =
     let i = c .before .before .before .before .before .before .before .before .before .before .before .before .before .before .loop .inv in
-    let n = c .before .before .before .before .next-block in
+    let n = c .before .before .before .before .next-block2 in
     let t = c .before .before .before .before .before .before .before .before .before .before .before .tested in
     let s = c .before .before .before .before .before .before .before .before .before .before .before .before .before .before .before .before .before .before .before .before .before .before .before .before .before in (
       n .kept .1 .0 ∙ i .0,
@@ -60,4 +57,4 @@ loop-again c =
 pub by-blocks-spec : {M : Type 1} → statement M
 by-blocks-spec =
     tie.close
-    (tie.spec Inv-loop μ-loop settle-requires loop-holds tested-requires (λ c. c .before .before .before .before .before .before .loop .inv .0 ∙ c .before .before .before .before .before .before .before .before .before .before .before .settle .kept .1 .0) (λ c. c .before .before .before .before .before .before .loop .inv .1 ∙ c .before .before .before .before .before .before .before .before .before .before .before .settle .kept .1 .1 .0) returns (λ c. omega arith) next-block-requires loop-less loop-again)
+    (tie.spec Inv-loop μ-loop (λ c κs. search needs) loop-holds tested-requires (λ c. c .before .before .before .before .before .before .loop .inv .0 ∙ c .before .before .before .before .before .before .before .before .before .before .before .next-block .kept .1 .0) (λ c. c .before .before .before .before .before .before .loop .inv .1 ∙ c .before .before .before .before .before .before .before .before .before .before .before .next-block .kept .1 .1 .0) returns (λ c. omega arith) next-block-requires-2 loop-less loop-again)
