@@ -1,5 +1,5 @@
 // The refusals of recovery but 1 and 14, each by its own walk.
-use order::Walked;
+use order2::Walked;
 
 pub mod inner;
 
@@ -8,3 +8,6 @@ pub struct Found {
     pub walked: Walked,
     pub beyond: usize,
 }
+
+// So many Begins, and as many endings, are sorted at a time where the order of transactions takes it.
+pub const PLACES: usize = 20480;

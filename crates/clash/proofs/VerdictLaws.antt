@@ -102,7 +102,7 @@ module _ (s : List ℕ) where
       let h : pageOf (said s p) < 2 ^ 64 = number-range 8 0 (bytes-take (keyLen s p) (bytes-drop (p + 27) b)) in
       true-both (le-leb 0 (pageOf (said s p)) (omega arith)) (lt-ltb (pageOf (said s p)) (2 ^ 64) h)
 
-  clash-all : Bytes s → (p : ℕ) → clashIn 0 (2 ^ 64) s p ≡ clashAfter (before s p) (said s p)
+  pub clash-all : Bytes s → (p : ℕ) → clashIn 0 (2 ^ 64) s p ≡ clashAfter (before s p) (said s p)
   clash-all b p = rw (page-in b p)
 
   -- the verdict, by the first clash

@@ -186,15 +186,13 @@ module _ (full : ℕ → Bool) where
         tells = ap₂ told a b ∙ join-wrong s (k .met) (k .halts) (wrong-order f) l;
         ends = λ z. absurd (omega arith);
         last = λ z. absurd (omega arith);
-        changes = λ z. absurd (omega arith);
       }
-  walked s c r {w} k f (others l a b d g) =
+  walked s c r {w} k f (others l a b d) =
       record {
         met = subst (Met s) (sym b) (k .met);
         tells = ap₂ told a b ∙ join-others s (k .halts) (wrong-order f) l;
         ends = λ z. b ∙ end z;
         last = λ z. ap (λ (x : Lsn). x .0) d ∙ k .sees .last ∙ ap lastLsn (all z);
-        changes = λ z. g ∙ k .sees .changes ∙ ap (count isChange) (all z);
       }
     where
       end : w .number ≡ 0 → c .place ≡ endOf s

@@ -76,12 +76,12 @@ module _ (full : ℕ → Bool) (xs : List Entry) (e : Entry) where
 -- ---- the walk
 
 module _ (full : ℕ → Bool) (s : List ℕ) where
-  pub scanning-first : Scanning full s 32 (record { last = record { 0 = 0 }; begins = 0; changes = 0 })
+  pub scanning-first : Scanning full s 32 (record { last = record { 0 = 0 }; begins = 0 })
   scanning-first =
       record {
         met = met-first s;
-        sees = record { last = sym (ap lastLsn (before-first s)); begins = sym (ap (count isBegin) (before-first s)); changes = sym (ap (count isChange) (before-first s)) };
-        few = (omega arith, omega arith);
+        sees = record { last = sym (ap lastLsn (before-first s)); begins = sym (ap (count isBegin) (before-first s)) };
+        few = omega arith;
         plain = ap₂ (λ (es fs : List Entry). verdictFrom (plainFault full) es fs 32) (sym (before-first s)) (sym (onward-first s));
       }
 
@@ -141,10 +141,10 @@ module _ (full : ℕ → Bool) (s : List ℕ) where
             sees = k .sees;
           }
 
-      pub scanning-next : spent ≡ false → (next : ℕ) → next ≡ at + v .length → (u : Seen) → u .last .0 ≡ v .lsn .0 → u .begins ≡ w .begins + one (eqb (v .kind) begin) → u .changes ≡ w .changes + one (isChanging (v .kind))
+      pub scanning-next : spent ≡ false → (next : ℕ) → next ≡ at + v .length → (u : Seen) → u .last .0 ≡ v .lsn .0 → u .begins ≡ w .begins + one (eqb (v .kind) begin)
           → Scanning full s next u
       unfolding entryOf
-      scanning-next z next l u a b c =
+      scanning-next z next l u a b =
           let p : next ≡ at + lengthAt s at = l ∙ ap (λ (x : ℕ). at + x) read-length in
           let d : before s next ≡ before s at ++ (said s at ∷ []) = ap (before s) p ∙ before-next s (k .met) read-stands in
           let h = stands-at read-stands in
@@ -154,9 +154,8 @@ module _ (full : ℕ → Bool) (s : List ℕ) where
             sees = record {
               last = a ∙ ap (λ (x : EntryView). x .lsn .0) read-is ∙ sym (ap lastLsn d ∙ last-snoc (before s at) (said s at));
               begins = b ∙ ap₂ (λ (x y : ℕ). x + one (eqb y begin)) (k .sees .begins) read-kind ∙ sym (ap (count isBegin) d ∙ count-snoc isBegin (before s at) (said s at));
-              changes = c ∙ ap₂ (λ (x y : ℕ). x + one (isChanging y)) (k .sees .changes) read-kind ∙ sym (ap (count isChange) d ∙ count-snoc isChange (before s at) (said s at));
             };
-            few = (omega (arith, b, k .few .0, one-le (eqb (v .kind) begin), h .front, h .low, p), omega (arith, c, k .few .1, one-le (isChanging (v .kind)), h .front, h .low, p));
+            few = omega (arith, b, k .few, one-le (eqb (v .kind) begin), h .front, h .low, p);
             plain = plain-step ∙ rw (f, ← p);
           }
         where

@@ -14,7 +14,7 @@ use Rattle.wal.specs.Walk.{entries, endOf, endingOf}
 use Rattle.wal.specs.Prefix.{Met}
 use Rattle.wal.specs.declared.Reading.{Reading}
 use Rattle.wal.specs.declared.Reading.the-variants.{Whole, End, Torn, Damage}
-use Rattle.rules.specs.Shape.{both, isKnown, isChange, isShaped}
+use Rattle.rules.specs.Shape.{both, isKnown, isShaped}
 use Rattle.rules.specs.Order.{count, isBegin, lastLsn, inOrder, endVerdict}
 use Rattle.firsts.specs.Judge.{verdictFrom}
 use Rattle.order2.specs.declared.Walked.{Walked}
@@ -55,10 +55,9 @@ basicFault full xs e =
 unfoldable pub basicVerdict : (ℕ → Bool) → List ℕ → Verdict
 basicVerdict full s = verdictFrom (basicFault full) [] (entries s) first then endVerdict (endingOf s) (endOf s)
 
--- what the first walk tells; of an accepted log also its end, the last LSN and how many changes it has
+-- what the first walk tells; of an accepted log also its end and the last LSN
 pub record FirstWalk (full : ℕ → Bool) (s : List ℕ) (w : Walked) : Type 0 where
   pub met : Met s (w .place)
   pub tells : told (w .number) (w .place) ≡ basicVerdict full s
   pub ends : w .number ≡ 0 → w .place ≡ endOf s
   pub last : w .number ≡ 0 → w .last .0 ≡ lastLsn (entries s)
-  pub changes : w .number ≡ 0 → w .changes ≡ count isChange (entries s)

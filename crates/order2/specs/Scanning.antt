@@ -12,7 +12,7 @@ use Rattle.wal.specs.Entry.{Entry}
 use Rattle.wal.specs.Read.{first, lengthAt}
 use Rattle.wal.specs.Walk.{entries, endOf, endingOf}
 use Rattle.wal.specs.Prefix.{Met, Stands, before, onward}
-use Rattle.rules.specs.Shape.{isKnown, isChange, isShaped}
+use Rattle.rules.specs.Shape.{isKnown, isShaped}
 use Rattle.rules.specs.Order.{count, isBegin, lastLsn}
 use Rattle.firsts.specs.Judge.{verdictFrom, plainFault}
 use Rattle.order2.specs.First.{endNumber}
@@ -37,13 +37,12 @@ plainVerdict full s = verdictFrom (plainFault full) [] (entries s) first
 pub record Sees (es : List Entry) (w : Seen) : Type 0 where
   pub last : w .last .0 ≡ lastLsn es
   pub begins : w .begins ≡ count isBegin es
-  pub changes : w .changes ≡ count isChange es
 
 -- no entry before `at` breaks one of these rules
 pub record Scanning (full : ℕ → Bool) (s : List ℕ) (at : ℕ) (w : Seen) : Type 0 where
   pub met : Met s at
   pub sees : Sees (before s at) w
-  pub few : (w .begins ≤ at) × (w .changes ≤ at)
+  pub few : w .begins ≤ at
   pub plain : plainVerdict full s ≡ verdictFrom (plainFault full) (before s at) (onward s at) at
 
 -- the walk stops at `at` with number n, and rule 8 is to be tested up to `stop`: with the entry at `at` where that has no record left, since 8 has its turn before 10
@@ -61,4 +60,4 @@ pub record Scanned (full : ℕ → Bool) (s : List ℕ) (n at stop : ℕ) (w : S
 -- the two searches make the walk's answer: a fault by rule 8 at r that comes before `stop`, or else that of the other rules
 pub data Joined (s : Scan) (r : ℕ) (w : Walked) : Type 0 where
   wrong : r < s .stop → w .number ≡ transactionOrder → w .place ≡ r → Joined s r w
-  others : s .stop ≤ r → w .number ≡ s .number → w .place ≡ s .place → w .last ≡ s .seen .last → w .changes ≡ s .seen .changes → Joined s r w
+  others : s .stop ≤ r → w .number ≡ s .number → w .place ≡ s .place → w .last ≡ s .seen .last → Joined s r w

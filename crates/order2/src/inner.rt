@@ -26,7 +26,6 @@ fn joined(s: Scan, place: usize) -> Walked
             number: TRANSACTION_ORDER,
             place: place,
             last: Lsn(0),
-            changes: 0,
         };
     }
     let seen = s.seen;
@@ -35,7 +34,6 @@ fn joined(s: Scan, place: usize) -> Walked
         number: s.number,
         place: s.place,
         last: last,
-        changes: seen.changes,
     }
 }
 

@@ -30,11 +30,10 @@ pub struct Block {
     pub ends: usize,
 }
 
-// What a walk has seen: the last LSN, and how many Begins and changes.
+// What a walk has seen: the last LSN, and how many Begins.
 pub struct Seen {
     pub last: Lsn,
     pub begins: u64,
-    pub changes: u64,
 }
 
 // What a walk knows of the order of transactions: whether every entry so far is known to be in order, and the highest number that began.
@@ -53,10 +52,9 @@ pub struct Scan {
     pub sure: bool,
 }
 
-// Where the first walk stops, and the number of the fault there or 0; where it is 0, the last LSN and the number of changes.
+// Where the first walk stops, and the number of the fault there or 0; where it is 0, the last LSN.
 pub struct Walked {
     pub number: u64,
     pub place: usize,
     pub last: Lsn,
-    pub changes: u64,
 }

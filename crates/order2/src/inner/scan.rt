@@ -1,4 +1,4 @@
-// The walk with checksums and rules 5, 6, 7 and 10, which collects what rule 8 is tested with.
+// The walk with checksums and rules 5, 6, 7 and 10, which also tests rule 8 as long as it is sure of it.
 ghost use mathlib.Core.Path.{_≡_};
 ghost use mathlib.Core.Bool.{true};
 ghost use Prim.Native.Nat.{_+_, _^_, _≤_, _<_};
@@ -7,7 +7,7 @@ ghost use lib.Dec.{eqb};
 ghost use Rattle.crc32c.specs.Tables.{Tables};
 ghost use Rattle.wal.specs.Entry.{entryOf, begin};
 ghost use Rattle.wal.proofs.WalkLaws.{EntryAt};
-ghost use Rattle.rules.specs.Shape.{both, isKnown, isChanging};
+ghost use Rattle.rules.specs.Shape.{both, isKnown};
 ghost use Rattle.rules.specs.Order.{one};
 ghost use Rattle.order2.specs.First.{reach, fullOf, endNumber};
 ghost use Rattle.order2.specs.Scanning.{earlyFault, Scanned};
@@ -18,7 +18,6 @@ use crate::Seen;
 use crate::Turns;
 use crate::inner::turn::TURNS;
 use crate::inner::turn::turn;
-use change::inner::is_change;
 use change::shape::shaped;
 use crc32c::inner::Tables;
 use endian::Lsn;
@@ -102,15 +101,13 @@ fn more(n: u64, counts: bool) -> u64
 
 // What was seen, with one entry more.
 fn counted(w: Seen, lsn: Lsn, kind: u8) -> Seen
-    requires { ⌜ (w .begins < 2 ^ 62) × (w .changes < 2 ^ 62) ⌝ }
-    ensures { λ r. ⌜ (r .last .0 ≡ lsn .0) × (r .begins ≡ w .begins + one (eqb kind begin)) × (r .changes ≡ w .changes + one (isChanging kind)) ⌝ }
+    requires { ⌜ w .begins < 2 ^ 62 ⌝ }
+    ensures { λ r. ⌜ (r .last .0 ≡ lsn .0) × (r .begins ≡ w .begins + one (eqb kind begin)) ⌝ }
 {
     let begins = more(w.begins, kind == BEGIN);
-    let changes = more(w.changes, is_change(kind));
     Seen {
         last: lsn,
         begins: begins,
-        changes: changes,
     }
 }
 
@@ -125,7 +122,6 @@ pub fn scan(t: &Tables, log: &[u8], bounded: bool, records: u64) -> Scan
     let mut seen = Seen {
         last: Lsn(0),
         begins: 0,
-        changes: 0,
     };
     let mut turns = Turns {
         sure: true,

@@ -2,11 +2,9 @@ use mathlib.Core.Path.{_≡_, sym, ap, _∙_}
 use native.Mathlib.Omega.{arith}
 use Rattle.endian.specs.Numbers.{Bytes}
 use Rattle.wal.specs.Read.{headerFault}
-use Rattle.order.specs.First.{fullOf}
-use Rattle.order.specs.declared.Walked.{Walked}
+use Rattle.order2.specs.declared.Walked.{Walked}
 use Rattle.cells.specs.Measure.{Sound}
-use Rattle.cells.proofs.Soundness.{sound-passed}
-use Rattle.checks.proofs.LogLaws.{header-fits, before-all, judged-header, judged-clash, judged-walk}
+use Rattle.checks.proofs.LogLaws.{header-fits, before-all, sound as walk-sound, judged-header, judged-clash, judged-walk}
 use borrow.Author.Needs.{needs}
 use Rattle.checks.proofs.inner.judge_log.Statement.{statement}
 use Rattle.checks.proofs.inner.judge_log.Tie as tie

@@ -9,7 +9,7 @@ returns : tie.Need-returns
 returns c = wrong (c .if1 .taken) refl refl
 
 returns-2 : tie.Need-returns-2
-returns-2 c = others (c .before .before .if1 .left) refl refl refl refl
+returns-2 c = others (c .before .before .if1 .left) refl refl refl
 
 pub joined-spec : {M : Type 1} → statement M
 joined-spec = tie.close (tie.spec returns returns-2)

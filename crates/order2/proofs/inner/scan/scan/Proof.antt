@@ -79,7 +79,7 @@ counted-requires c κs =
     let i = c .before .before .before .before .before .before .before .before .before .before .before .before .before .loop .inv .0 in
     let m = met-small _ (i .met) in
     let r = c .before .before .before .before .before .before .before .before .before .before .before .before .before .before .before .pre .1 in
-    (omega (arith, i .few .0, m, r), omega (arith, i .few .1, m, r))
+    omega (arith, i .few, m, r)
 
 loop-less : tie.Need-loop-less Inv-loop μ-loop
 loop-less c = let k = entry-at _ _ (whole (c .before .before .before .before .before .before .before .before .before .before .before)) in omega (arith, k .room, k .low)
@@ -88,7 +88,7 @@ loop-again : tie.Need-loop-again Inv-loop μ-loop
 loop-again c =
     let i = c .before .before .before .before .before .before .before .before .before .before .before .before .before .before .loop .inv in
     let n = c .counted in
-    (scanning-next _ _ (i .0) _ (whole (c .before .before .before .before .before .before .before .before .before .before .before)) (sym (c .before .before .before .before .before .before .before .if1 .left) ∙ c .before .before .before .before .before .before .before .before .early-fault .ensures) (c .before .before .before .no-record .ensures) (c .before .before .if2 .left) _ refl (n .result) (n .ensures .0) (n .ensures .1) (n .ensures .2), behind (c .before .before .before .before .before))
+    (scanning-next _ _ (i .0) _ (whole (c .before .before .before .before .before .before .before .before .before .before .before)) (sym (c .before .before .before .before .before .before .before .if1 .left) ∙ c .before .before .before .before .before .before .before .before .early-fault .ensures) (c .before .before .before .no-record .ensures) (c .before .before .if2 .left) _ refl (n .result) (n .ensures .0) (n .ensures .1), behind (c .before .before .before .before .before))
 
 pub scan-spec : {M : Type 1} → statement M
 scan-spec =
