@@ -1,33 +1,31 @@
 -- The verdict on a log, from its header, the first walk and the first clash. Assumes nothing.
 use Prim.Native.Nat.{ℕ, zero, suc, _^_, _≤_, _<_}
-use mathlib.Core.Path.{_≡_, refl, sym, ap, ap₂, _∙_, subst}
+use mathlib.Core.Path.{_≡_, refl, sym, ap, _∙_, subst}
 use mathlib.Core.Bool.{Bool, true, false}
 use mathlib.Core.List.{List, [], _∷_, _++_}
 use native.Mathlib.Omega.{arith}
 use lib.ListN.{length}
-use lib.Dec.{ltb, eqb, eqb·suc-zero}
+use lib.Dec.{ltb, eqb·suc-zero}
 use borrow.Author.Tests.{lt-ltb, le-ltb, ltb-true, ltb-false}
 use Rattle.endian.specs.Pick.{pick}
 use Rattle.endian.specs.Numbers.{Bytes}
 use Rattle.wal.specs.Entry.{Entry}
 use Rattle.wal.specs.Read.{headerFault, first, readAt}
-use Rattle.wal.specs.Walk.{entries, endOf, endingOf}
-use Rattle.wal.specs.Prefix.{Met, Stands, said, before}
+use Rattle.wal.specs.Walk.{entries, endOf}
+use Rattle.wal.specs.Prefix.{Met, said, before}
 use Rattle.wal.proofs.Prefix.{Along, start, more, along, met-below, stands-at, before-first, before-next, before-end}
-use Rattle.refusals.specs.Verdict.{verdict, accepted, _then_}
-use Rattle.refusals.specs.declared.Verdict.{Verdict}
+use Rattle.refusals.specs.Verdict.{verdict, _then_}
 use Rattle.rules.specs.Shape.{isKnown, isShaped}
 use Rattle.rules.specs.Order.{any, lastLsn, inOrder, clashes, orderFrom, endVerdict, logVerdict}
 use Rattle.rules.proofs.Tests.{false-true, into, past}
 use Rattle.firsts.specs.First.{FirstOf}
 use Rattle.firsts.proofs.Log.{first-log}
-use Rattle.order2.specs.First.{told, basicFault, FirstWalk}
-use Rattle.order2.specs.declared.Walked.{Walked}
-use Rattle.order2.proofs.Passing.{no-fault-at, with-clashes}
-use Rattle.order.specs.State.{stateOf, ordered}
-use Rattle.order.specs.Clash.{clashAfter}
-use Rattle.order.proofs.States.{Told, told-none, told-snoc, ordered-is}
-use Rattle.order.proofs.Clashes.{Clear, clear-none, clear-snoc, clash-is}
+use Rattle.order.specs.First.{told, basicFault, FirstWalk}
+use Rattle.order.specs.declared.Walked.{Walked}
+use Rattle.order.proofs.Passing.{no-fault-at, with-clashes}
+use Rattle.states.specs.Clash.{clashAfter}
+use Rattle.states.proofs.States.{Told, told-none, told-snoc, ordered-is}
+use Rattle.states.proofs.Clashes.{Clear, clear-none, clear-snoc, clash-is}
 use Rattle.cells.specs.Cell.{Starts}
 use Rattle.cells.specs.Measure.{Lasts, Sound}
 use Rattle.clash.specs.First.{FirstIn}

@@ -7,8 +7,8 @@ use lib.ListN.{getD}
 use Rattle.wal.specs.Walk.{entries, endOf}
 use Rattle.page.specs.Layout.{pageBytes, typeAt, dataType}
 use Rattle.rules.specs.Order.{lastLsn, logVerdict}
-use Rattle.order2.specs.First.{told}
-use Rattle.order2.specs.declared.Walked.{Walked}
+use Rattle.order.specs.First.{told}
+use Rattle.order.specs.declared.Walked.{Walked}
 use Rattle.cells.specs.Cell.{Starts}
 use Rattle.cells.specs.Measure.{Lasts}
 

@@ -17,7 +17,7 @@ ghost use Rattle.rules.specs.Recover.{pagesFrom, isStray, strayFrom};
 ghost use Rattle.cells.specs.Cell.{Starts};
 ghost use Rattle.cells.specs.Listing.{Lists};
 ghost use Rattle.cells.specs.Measure.{Sound, FirstBeyond};
-ghost use Rattle.order2.specs.First.{fullOf};
+ghost use Rattle.order.specs.First.{fullOf};
 ghost use Rattle.checks.specs.Judged.{Judged, OfData};
 use crate::Found;
 use crate::PLACES;
@@ -27,8 +27,8 @@ use change::inner::is_change;
 use clash::inner::clash;
 use crc32c::inner::Tables;
 use endian::Lsn;
-use order2::Walked;
-use order2::inner::walk;
+use order::Walked;
+use order::inner::walk;
 use page::DATA_TYPE;
 use page::PAGE_BYTES;
 use page::TYPE_AT;
@@ -77,14 +77,7 @@ pub fn judge_log(
     if number != 0 {
         return refused_at(number, 0);
     }
-    let w = walk(
-        t,
-        log,
-        bounded,
-        records,
-        &mut begins[..],
-        &mut ends[..],
-    );
+    let w = walk(t, log, bounded, records, &mut begins[..], &mut ends[..]);
     let beyond = measure(log, w.place, n, starts, lasts, lists);
     let at = clash(log, w.place, n, beyond, starts, space);
     if at < w.place {

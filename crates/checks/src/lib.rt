@@ -1,5 +1,5 @@
 // The refusals of recovery but 1 and 14, each by its own walk.
-use order2::Walked;
+use order::Walked;
 
 pub mod inner;
 
@@ -10,4 +10,4 @@ pub struct Found {
 }
 
 // So many Begins, and as many endings, are sorted at a time where the order of transactions takes it.
-pub const PLACES: usize = 20480;
+pub const PLACES: usize = 16384;

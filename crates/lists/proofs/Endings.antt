@@ -24,8 +24,8 @@ use Rattle.firsts.specs.First.{placesOf, isEnd, isEnding, Tells, FirstOf}
 use Rattle.firsts.proofs.FirstLaws.{tells-of}
 use Rattle.firsts.proofs.Log.{Here, place-is, end-is, split-at, places-first, places-next}
 use Rattle.firsts.proofs.Outcomes.{InOrder, outcome-found, outcome-missing}
-use Rattle.order2.specs.Blocks.{topNumber}
-use Rattle.order2.proofs.Tellings.{found, firstly, own-end}
+use Rattle.order.specs.Blocks.{topNumber}
+use Rattle.order.proofs.Tellings.{found, firstly, own-end}
 use Rattle.lists.specs.Outcome.{Endings, Ending}
 
 -- ---- the first ending

@@ -22,7 +22,7 @@ use Rattle.rules.proofs.Range.{in-range}
 use Rattle.firsts.proofs.FirstLaws.{within}
 use Rattle.change.specs.Places.{AllShaped, ChangeAt}
 use Rattle.change.proofs.Places.{split-at, met-place}
-use Rattle.order2.specs.First.{reach}
+use Rattle.order.specs.First.{reach}
 use Rattle.lists.specs.Survey.{ShapedAt}
 
 -- the entries before stop, of which one stands at p

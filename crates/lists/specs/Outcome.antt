@@ -18,7 +18,7 @@ use Rattle.index.specs.Collect.{Lowered, Indexed}
 use Rattle.firsts.specs.First.{placesOf, isEnd}
 use Rattle.change.specs.Places.{ChangeAt}
 use Rattle.change.specs.Bits.{bitOf}
-use Rattle.order2.specs.Blocks.{topNumber}
+use Rattle.order.specs.Blocks.{topNumber}
 use Rattle.lists.specs.declared.Tally.{Tally}
 
 -- the counts of the answer

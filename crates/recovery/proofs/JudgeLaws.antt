@@ -20,7 +20,7 @@ use Rattle.rules.specs.Recover.{pagesFrom, strayFrom, tightFrom, recoverVerdict
 use Rattle.rules.proofs.Tests.{into, past}
 use Rattle.rules.proofs.OrderLaws.{InTurn, in-turn}
 use Rattle.refusals.proofs.Then.{then-refused, then-accepted, then-zero}
-use Rattle.order2.specs.First.{told}
+use Rattle.order.specs.First.{told}
 use Rattle.fates.specs.Fate.{Ordered}
 use Rattle.rules.specs.Lent.{lent}
 

@@ -20,8 +20,8 @@ use Rattle.rules.specs.Order.{logVerdict, neverFull}
 use Rattle.rules.specs.Recover.{pagesFrom, strayFrom, recoverVerdict}
 use Rattle.rules.proofs.OrderLaws.{InTurn, in-turn}
 use Rattle.rules.proofs.Verdicts.{Sane, pages-sane, lent-all, stray-none}
-use Rattle.order2.specs.First.{told}
-use Rattle.order2.specs.declared.Walked.{Walked}
+use Rattle.order.specs.First.{told}
+use Rattle.order.specs.declared.Walked.{Walked}
 use Rattle.fates.specs.Fate.{Ordered}
 use Rattle.cells.specs.Measure.{Sound as Rises}
 use Rattle.cells.proofs.Soundness.{Rising, sound-of}

@@ -16,7 +16,7 @@ use Rattle.rules.specs.Recover.{recoverVerdict, tableAfter, touchedFrom, mended
 use Rattle.rules.specs.declared.Answer.{Answer}
 use Rattle.rules.specs.declared.Record.{Record}
 use Rattle.rules.proofs.Verdicts.{is-accepted}
-use Rattle.order2.specs.declared.Walked.{Walked}
+use Rattle.order.specs.declared.Walked.{Walked}
 use Rattle.fates.specs.Fate.{Ordered}
 use Rattle.tally.specs.Counts.{tallyOf}
 use Rattle.tally.specs.Flat.{flatAfter}

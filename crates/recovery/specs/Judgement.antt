@@ -9,8 +9,8 @@ use Rattle.rules.specs.Order.{lastLsn}
 use Rattle.rules.specs.Recover.{recoverVerdict}
 use Rattle.rules.specs.declared.Answer.{Answer}
 use Rattle.endian.specs.declared.Lsn.{Lsn}
-use Rattle.order2.specs.First.{told}
-use Rattle.order2.specs.declared.Walked.{Walked}
+use Rattle.order.specs.First.{told}
+use Rattle.order.specs.declared.Walked.{Walked}
 use Rattle.tally.specs.Counts.{tallyOf}
 use Rattle.tally.specs.declared.Tally.{Tally}
 use Rattle.cells.specs.Cell.{Starts}

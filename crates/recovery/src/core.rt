@@ -12,7 +12,7 @@ use crc32c::inner::Tables;
 use crc32c::inner::tables;
 use endian::Lsn;
 use mend::inner::mend_all;
-use order2::Walked;
+use order::Walked;
 use page::PAGE_BYTES;
 use rules::Answer;
 use tally::Tally;

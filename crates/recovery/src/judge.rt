@@ -1,7 +1,7 @@
 // Every refusal of recovery, before anything lent is written.
 ghost use mathlib.Core.Path.{_≡_};
 ghost use Rattle.crc32c.specs.Tables.{Tables};
-ghost use Rattle.order2.specs.First.{fullOf};
+ghost use Rattle.order.specs.First.{fullOf};
 ghost use Rattle.recovery.specs.Judgement.{Judgement, Gathered};
 use crate::Judged;
 use checks::PLACES;
@@ -11,7 +11,7 @@ use checks::inner::stray;
 use crc32c::inner::Tables;
 use decide::inner::gather;
 use endian::Lsn;
-use order2::Walked;
+use order::Walked;
 use page::PAGE_BYTES;
 use page::inner::size_wrong;
 use refusals::NO_DATA_PAGE;

@@ -13,7 +13,7 @@ ghost use Rattle.recovery.specs.Flat.{recoverFlat};
 use endian::Lsn;
 use endian::PageNumber;
 use images::Image;
-use order2::Walked;
+use order::Walked;
 use records::inner::fill;
 use rules::Answer;
 use rules::Located;

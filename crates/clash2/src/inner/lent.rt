@@ -4,7 +4,7 @@ ghost use Prim.Native.Nat.{ℕ, _+_, _-_, _≤_, _<_};
 ghost use lib.ListN.{length, getD};
 ghost use Rattle.wal.specs.Prefix.{Met, before};
 ghost use Rattle.change.specs.Places.{AllShaped};
-ghost use Rattle.order2.specs.First.{reach};
+ghost use Rattle.order.specs.First.{reach};
 ghost use Rattle.lists.specs.Survey.{Starts, Tops};
 ghost use Rattle.lists.specs.Fill.{Listed};
 ghost use Rattle.lists.specs.Outcome.{Endings};

@@ -8,7 +8,7 @@ ghost use Rattle.wal.specs.Prefix.{Met, said, before};
 ghost use Rattle.rules.specs.Mend.{topOf};
 ghost use Rattle.firsts.specs.Clash.{slotsOn, clashWalk};
 ghost use Rattle.change.specs.Places.{AllShaped, ChangeAt, ChangeOn, Each, slotsOf, placesOn};
-ghost use Rattle.order2.specs.First.{reach};
+ghost use Rattle.order.specs.First.{reach};
 ghost use Rattle.lists.specs.Outcome.{Endings};
 ghost use Rattle.clash2.specs.Newest.{newestBy, CellsIn, lookedAt, endingBy, marksAt, clashesAt, Passed, Within, slotLimit, Wider};
 ghost use Rattle.clash2.specs.Region.{Searched, FirstIn};

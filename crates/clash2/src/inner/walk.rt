@@ -10,7 +10,7 @@ ghost use Rattle.rules.specs.Shape.{both, isOn};
 ghost use Rattle.rules.specs.Mend.{topOf};
 ghost use Rattle.firsts.specs.Clash.{slotsOn, clashWalk, marksOn};
 ghost use Rattle.change.specs.Places.{AllShaped};
-ghost use Rattle.order2.specs.First.{reach};
+ghost use Rattle.order.specs.First.{reach};
 ghost use Rattle.lists.specs.Survey.{ShapedAt};
 ghost use Rattle.lists.specs.Outcome.{Endings};
 ghost use Rattle.clash2.specs.Newest.{newestBy, CellsIn, lookedAt, endingBy, clashesAt, Passed};

@@ -2,7 +2,7 @@ use mathlib.Core.Path.{_≡_, sym, ap, _∙_}
 use native.Mathlib.Omega.{arith}
 use Rattle.endian.specs.Numbers.{Bytes}
 use Rattle.wal.specs.Read.{headerFault}
-use Rattle.order2.specs.declared.Walked.{Walked}
+use Rattle.order.specs.declared.Walked.{Walked}
 use Rattle.checks.proofs.LogLaws.{header-fits, before-all, sound, judged-header, judged-clash, judged-walk}
 use borrow.Author.Needs.{needs}
 use Rattle.checks.proofs.inner.judge_log.Statement.{statement}

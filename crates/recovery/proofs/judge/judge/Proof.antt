@@ -11,8 +11,8 @@ use Rattle.page.specs.Fault.{sizeWrong}
 use Rattle.refusals.specs.declared.Verdict.{Verdict}
 use Rattle.rules.specs.Order.{logVerdict, lastLsn}
 use Rattle.rules.specs.Recover.{pagesFrom, strayFrom}
-use Rattle.order2.specs.First.{fullOf}
-use Rattle.order2.specs.declared.Walked.{Walked}
+use Rattle.order.specs.First.{fullOf}
+use Rattle.order.specs.declared.Walked.{Walked}
 use Rattle.checks.proofs.LogLaws.{header-fits}
 use Rattle.recovery.proofs.JudgeLaws.{header-ok, ordered-ok, judge-size, judge-pages, judge-stray, judge-tight, judge-done, stray-ok}
 use Rattle.recovery.proofs.Judging.{rises-ok, size-is, touched-ok, gathered-none, judged-refused, judged-log, log-ok, judged-all}

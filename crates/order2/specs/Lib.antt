@@ -1,4 +1,0 @@
-pub mod First
-pub mod Scanning
-pub mod Blocks
-pub mod Turns
