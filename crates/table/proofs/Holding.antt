@@ -13,16 +13,18 @@ use Rattle.endian.specs.Pick.{pick}
 use Rattle.wal.specs.Entry.{Entry, commit, rollback}
 use Rattle.wal.specs.Walk.{entries, endOf}
 use Rattle.wal.specs.Prefix.{Met, onward}
+use Rattle.wal.proofs.Prefix.{onward-first, met-first}
 use Rattle.rules.specs.Order.{any, is, count, isBegin}
 use Rattle.rules.specs.Recover.{outcomeOf, recordOf, recordsOf}
 use Rattle.rules.specs.declared.Record.{Record}
 use Rattle.table.specs.Flat.{stride}
 use Rattle.table.specs.Rows.{rowFor, blank, rows, Full}
-use Rattle.table.specs.Telling.{begunRows, Span, tell}
+use Rattle.table.specs.Telling.{reach, begunRows, Span, tell}
 use Rattle.table.specs.Holding.{head, nextOf, baseOf, countOf, Space, Held, HeldTo, noRecord}
 use Rattle.table.specs.declared.Row.{Row}
 use Rattle.table.proofs.Storing.{rows-length}
 use Rattle.table.proofs.Telling.{getD-map}
+use Rattle.table.proofs.Blocks.{begun-few}
 use Rattle.table.proofs.Flattening.{told-records, records-many}
 
 -- ---- three numbers in front
@@ -67,6 +69,36 @@ module _ {s : List ℕ} {from limit n next i : ℕ} (p : Span s from limit n nex
         front = ap (take n) w ∙ take-at front (drop n (rows part)) n c;
       }
 
+-- its length stays
+pub stored-long : (xs y : List ℕ) → Space (length xs) → length y ≡ length (take (length xs - head) (drop head xs)) → length (take head xs ++ (y ++ drop (length xs - head) (drop head xs))) ≡ length xs
+stored-long xs y p l =
+    length-append (take head xs) (y ++ drop (length xs - head) (drop head xs))
+    ∙ omega (arith, p .some, length-take-le head xs (omega (arith, p .some)), length-append y (drop (length xs - head) (drop head xs)), l, ap length (behind-is xs), length-drop head xs, length-drop (length xs - head) (drop head xs))
+
+-- all of it, once a block was made for record i
+pub loaded : {s : List ℕ} (xs y : List ℕ) {from n next i : ℕ} → Space (length xs) → Span s from (length (take (length xs - head) (drop head xs)) / stride) n next → i < length (begunRows (entries s))
+    → begunRows (onward s from) ≡ drop i (begunRows (entries s)) → length y ≡ length (take (length xs - head) (drop head xs))
+    → rows y ≡ map (tell (entries s)) (take n (begunRows (onward s from))) ++ drop n (rows (take (length xs - head) (drop head xs)))
+    → let z = set (set (set (take head xs ++ (y ++ drop (length xs - head) (drop head xs))) 0 next) 1 i) 2 n in Held s z × ((baseOf z ≡ i) × (0 < countOf z))
+loaded {s} xs y {from} {n} {next} {i} space p b e l q =
+    subst (λ (z : List ℕ). Held s z × ((baseOf z ≡ i) × (0 < countOf z))) (sym (stored-is xs y next i n (omega (arith, space .some))))
+    (made-held p b e (behind-full xs space .1) (take (length xs - head) (drop head xs)) y l refl q, (refl, span-some p b e (behind-full xs space .1)))
+
+-- ---- which record is taken
+
+pub held-small : {s xs : List ℕ} → Held s xs → length s < reach → baseOf xs + countOf xs < 18446744073709551616
+held-small {s} h k = omega (arith, h .many, begun-few (met-first s), ap (λ x. length (begunRows x)) (onward-first s))
+
+pub begun-first : (s : List ℕ) → begunRows (onward s 32) ≡ begunRows (entries s)
+begun-first s = ap begunRows (onward-first s)
+
+pub begun-next : {s xs : List ℕ} {i : ℕ} → HeldTo s xs i → (i < baseOf xs + countOf xs → ⊥) → begunRows (onward s (nextOf xs)) ≡ drop i (begunRows (entries s))
+begun-next {s} {xs} {i} h over = h .held .rest ∙ ap (λ (k : ℕ). drop k (begunRows (entries s))) (at-end (ltb i (baseOf xs + countOf xs)) refl)
+  where
+    at-end : (b : Bool) → ltb i (baseOf xs + countOf xs) ≡ b → baseOf xs + countOf xs ≡ i
+    at-end true e = absurd (over (ltb-true i (baseOf xs + countOf xs) e))
+    at-end false e = omega (arith, h .high, ltb-false i (baseOf xs + countOf xs) e)
+
 -- ---- a row of the block
 
 outcome-small : (es : List Entry) (t : ℕ) → outcomeOf es t ≤ 2
@@ -109,3 +141,18 @@ module _ {s xs : List ℕ} (i j : ℕ) (h : Held s xs) (e : baseOf xs + j ≡ i)
       ∙ sym (getD-map (tell (entries s)) (begunRows (entries s)) i begun-at)
       ∙ ap (λ (x : List Row). getD x i blank) t
       ∙ getD-record (recordsOf (entries s) (entries s)) i (omega (arith, begun-at, records-many (entries s) (entries s)))
+
+  -- and it is lent and read as the record
+  pub row-within : j < length (take (length xs - head) (drop head xs)) / stride
+  row-within = rw (behind-is xs) (omega (arith, h .room))
+
+  pub row-outcome : (r : Row) → r ≡ getD (rows (take (length xs - head) (drop head xs))) j blank → r .outcome ≤ 2
+  row-outcome r q = subst (λ (k : ℕ). k ≤ 2) (sym (ap (λ (x : Row). x .outcome) (q ∙ ap (λ (l : List ℕ). getD (rows l) j blank) (behind-is xs)))) held-outcome
+
+  pub row-record : (r : Row) → r ≡ getD (rows (take (length xs - head) (drop head xs))) j blank
+      → record { number = r .number; first = r .first; outcome = r .outcome; changes = r .changes } ≡ getD (recordsOf (entries s) (entries s)) i noRecord
+  row-record r q =
+      ap (λ (x : Row). record { number = x .number; first = x .first; outcome = x .outcome; changes = x .changes }) (q ∙ ap (λ (l : List ℕ). getD (rows l) j blank) (behind-is xs) ∙ held-row)
+
+  pub row-held : HeldTo s xs (i + 1)
+  row-held = record { held = h; low = omega arith; high = omega arith }

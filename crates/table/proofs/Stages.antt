@@ -7,12 +7,34 @@ use native.Mathlib.Omega.{arith}
 use mathlib.Core.List.{List, [], _∷_, _++_}
 use lib.ListN.{length, getD, set, take, drop, length-append, length-drop}
 use lib.Seq.{length-take-le, take-suc, drop-cons, append-snoc, set-at}
+use borrow.Author.Tests.{eq-eqb, ne-eqb}
 use Rattle.wal.specs.Walk.{entries, endOf}
 use Rattle.rules.specs.Order.{count, isBegin}
 use Rattle.rules.specs.Recover.{recordsOf}
+use Rattle.rules.specs.declared.Answer.{Answer}
 use Rattle.rules.specs.declared.Record.{Record}
-use Rattle.table.specs.Holding.{Space, HeldTo, Next, noRecord, Storable}
+use Rattle.table.specs.Telling.{reach, Orderly}
+use Rattle.table.specs.Holding.{Space, HeldTo, Next, noRecord, due}
 use Rattle.table.proofs.Flattening.{begun-length, records-many}
+
+-- ---- how many records there are
+
+pub due-all : (a : Answer) → a .number ≡ 0 → due a ≡ a .committed + a .«rolled_back» + a .unended
+unfolding due
+due-all a z = rw (eq-eqb (a .number) 0 z)
+
+pub due-none : (a : Answer) → (a .number ≡ 0 → ⊥) → due a ≡ 0
+unfolding due
+due-none a h = rw (ne-eqb (a .number) 0 h)
+
+-- n records can be stored in a table: nothing is asked of the log where there is none
+pub record Storable (s : List ℕ) (end n records numbers : ℕ) : Type 0 where
+  pub orderly : 0 < n → Orderly s
+  pub ends : 0 < n → endOf s ≡ end
+  pub short : 0 < n → length s < reach
+  pub begun : 0 < n → n ≤ count isBegin (entries s)
+  pub room : n ≤ records
+  pub space : Space numbers
 
 -- the table ys after i records
 abbrev pub storedTo : List ℕ → ℕ → List Record → List Record

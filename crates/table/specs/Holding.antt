@@ -2,10 +2,13 @@
 use Prim.Native.Nat.{ℕ, _+_, _-_, _*_, _/_, _≤_, _<_}
 use mathlib.Core.Path.{_≡_}
 use mathlib.Core.List.{List, map}
+use lib.Dec.{eqb}
 use lib.ListN.{length, getD, take, drop}
+use Rattle.endian.specs.Pick.{pick}
 use Rattle.wal.specs.Walk.{entries, endOf}
 use Rattle.wal.specs.Prefix.{Met, onward}
 use Rattle.rules.specs.Order.{count, isBegin}
+use Rattle.rules.specs.declared.Answer.{Answer}
 use Rattle.rules.specs.declared.Record.{Record}
 use Rattle.table.specs.Flat.{stride}
 use Rattle.table.specs.Rows.{rows}
@@ -55,11 +58,6 @@ pub record Next (s : List ℕ) (end : ℕ) (xs : List ℕ) (i : ℕ) : Type 0 wh
 abbrev pub noRecord : Record
 noRecord = record { number = record { 0 = 0 }; first = record { 0 = 0 }; outcome = 0; changes = 0 }
 
--- n records can be stored: nothing is asked of the log where there is none
-pub record Storable (s : List ℕ) (end n records numbers : ℕ) : Type 0 where
-  pub orderly : 0 < n → Orderly s
-  pub ends : 0 < n → endOf s ≡ end
-  pub short : 0 < n → length s < reach
-  pub begun : 0 < n → n ≤ count isBegin (entries s)
-  pub room : n ≤ records
-  pub space : Space numbers
+-- how many records an answer tells of: one for each transaction; refused, none
+unfoldable pub due : Answer → ℕ
+due a = pick (eqb (a .number) 0) (a .committed + a .«rolled_back» + a .unended) 0

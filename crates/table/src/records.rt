@@ -1,15 +1,18 @@
 // The records of an accepted log's transactions: rows in blocks, from which each record is taken in turn.
 ghost use mathlib.Core.Path.{_≡_};
-ghost use mathlib.Core.List.{_++_};
 ghost use Prim.Native.Nat.{_+_, _≤_, _<_};
-ghost use lib.ListN.{length, getD, take, drop};
+ghost use lib.Dec.{eqb};
+ghost use lib.ListN.{length, getD, drop};
+ghost use Rattle.endian.specs.Pick.{pick};
 ghost use Rattle.wal.specs.Walk.{entries, endOf};
 ghost use Rattle.wal.specs.Prefix.{Met, onward};
-ghost use Rattle.rules.specs.Recover.{recordsOf};
+ghost use Rattle.rules.specs.Order.{count, isBegin};
+ghost use Rattle.rules.specs.Recover.{recordsOf, tableAfter};
 ghost use Rattle.table.specs.Telling.{reach, Orderly, begunRows};
-ghost use Rattle.table.specs.Holding.{nextOf, baseOf, countOf, Space, Held, HeldTo, Next, noRecord, Storable};
+ghost use Rattle.table.specs.Holding.{nextOf, baseOf, countOf, Space, Held, HeldTo, Next, noRecord, due};
 use crate::inner::block;
 use crate::rows::row_at;
+use rules::Answer;
 use rules::Record;
 use wal::FIRST;
 
@@ -22,8 +25,11 @@ const BASE: usize = 1;
 
 const COUNT: usize = 2;
 
+// How many numbers a block has: 16,380 rows.
+const SCRATCH: usize = 65523;
+
 // How many guesses are kept while a block is made.
-const GUESSES: usize = 4096;
+const GUESSES: usize = 16384;
 
 // Makes the block that begins with record i, whose Begin is the first from a place on.
 fn load(log: &[u8], from: usize, end: usize, scratch: &mut [u64], i: usize)
@@ -80,14 +86,29 @@ fn nth_record(log: &[u8], end: usize, scratch: &mut [u64], i: usize) -> Record
     }
 }
 
-// Stores the first n records of an accepted log's transactions.
-pub fn fill(log: &[u8], end: usize, n: usize, table: &mut [Record], scratch: &mut [u64])
-    requires { ⌜ Storable (now log) end n (length (now table)) (length (now scratch)) ⌝ }
-    ensures { λ _. ⌜ now (table .exit) ≡ take n (recordsOf (entries (now (log .entry))) (entries (now (log .entry)))) ++ drop n (now (table .entry)) ⌝ }
+// How many records an answer tells of; refused, none.
+fn many(a: Answer) -> usize
+    requires { ⌜ (a .number ≡ 0 → a .committed + a .«rolled_back» + a .unended < 18446744073709551616) ⌝ }
+    ensures { λ r. ⌜ r ≡ due a ⌝ }
 {
+    if a.number != 0 {
+        return 0;
+    }
+    (a.committed + a.rolled_back + a.unended) as usize
+}
+
+// Fills the front of a table with the records of an accepted log's transactions. Refused, the table stays.
+pub fn fill(log: &[u8], a: Answer, table: &mut [Record])
+    requires { ⌜ (a .number ≡ 0 → Orderly (now log)) ⌝ }
+    requires { ⌜ (a .number ≡ 0 → (endOf (now log) ≡ a .tail) × (length (now log) < reach) × (count isBegin (entries (now log)) ≡ due a) × (due a ≤ length (now table))) ⌝ }
+    ensures { λ _. ⌜ now (table .exit) ≡ pick (eqb (a .number) 0) (tableAfter (entries (now (log .entry))) (now (table .entry))) (now (table .entry)) ⌝ }
+{
+    let mut scratch = [0u64; SCRATCH];
+    let end = a.tail as usize;
+    let n = many(a);
     let mut i: usize = 0;
     while i < n {
-        table[i] = nth_record(log, end, scratch, i);
+        table[i] = nth_record(log, end, &mut scratch, i);
         i += 1;
     }
 }
