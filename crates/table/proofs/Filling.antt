@@ -99,7 +99,7 @@ module _ {s : List ℕ} {from : ℕ} {a : List ℕ} {r : List Row} {n at : ℕ} 
           record {
             room = f .room;
             many = f .many;
-                rest = f .rest;
+            rest = f .rest;
             met = f .met;
             all = λ l. absurd (omega arith);
             on = λ l m. later (ltb from at) refl m;

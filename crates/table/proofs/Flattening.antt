@@ -98,8 +98,8 @@ filled es a b n f l e h q =
     ∙ ap joined q
     ∙ joined-append (map (tell es) (take n (begunRows es))) (drop n (rows a))
     ∙ ap₂ (λ (x y : List ℕ). x ++ y)
-        (ap (λ (x : List Row). joined (map (tell es) x)) (take-all n (begunRows es) (omega arith)) ∙ ap joined (told-records es es) ∙ joined-records (recordsOf es es))
-        (joined-behind a n f h)
+    (ap (λ (x : List Row). joined (map (tell es) x)) (take-all n (begunRows es) (omega arith)) ∙ ap joined (told-records es es) ∙ joined-records (recordsOf es es))
+    (joined-behind a n f h)
 
 -- the same in the front of a table
 pub flat-filled : (es : List Entry) (table b : List ℕ) (n : ℕ) → length b ≡ length (take (stride * (length table / stride)) table) → n ≡ length (begunRows es) → n ≤ length (take (stride * (length table / stride)) table) / stride

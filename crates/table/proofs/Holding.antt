@@ -92,12 +92,10 @@ held-small {s} h k = omega (arith, h .many, begun-few (met-first s), ap (λ x. l
 pub begun-first : (s : List ℕ) → begunRows (onward s 32) ≡ begunRows (entries s)
 begun-first s = ap begunRows (onward-first s)
 
-pub begun-next : {s xs : List ℕ} {i : ℕ} → HeldTo s xs i → (i < baseOf xs + countOf xs → ⊥) → begunRows (onward s (nextOf xs)) ≡ drop i (begunRows (entries s))
-begun-next {s} {xs} {i} h over = h .held .rest ∙ ap (λ (k : ℕ). drop k (begunRows (entries s))) (at-end (ltb i (baseOf xs + countOf xs)) refl)
-  where
-    at-end : (b : Bool) → ltb i (baseOf xs + countOf xs) ≡ b → baseOf xs + countOf xs ≡ i
-    at-end true e = absurd (over (ltb-true i (baseOf xs + countOf xs) e))
-    at-end false e = omega (arith, h .high, ltb-false i (baseOf xs + countOf xs) e)
+pub begun-next : {s xs : List ℕ} {i : ℕ} → HeldTo s xs i → baseOf xs + countOf xs ≤ i → begunRows (onward s (nextOf xs)) ≡ drop i (begunRows (entries s))
+begun-next {s} {xs} {i} h over =
+    let e : baseOf xs + countOf xs ≡ i = omega (arith, h .high) in
+    h .held .rest ∙ ap (λ (k : ℕ). drop k (begunRows (entries s))) e
 
 -- ---- a row of the block
 

@@ -1,16 +1,19 @@
 -- The table while records are stored, and the block that they are taken from.
 -- Assumes nothing.
 use mathlib.Core.Path.{_≡_, refl, sym, ap, _∙_, subst}
+use mathlib.Core.Bool.{Bool, true, false}
 use Prim.Native.Nat.{ℕ, zero, suc, _+_, _≤_, _<_}
 use native.Mathlib.Numerals.{add-one}
 use native.Mathlib.Omega.{arith}
 use mathlib.Core.List.{List, [], _∷_, _++_}
 use lib.ListN.{length, getD, set, take, drop, length-append, length-drop}
-use lib.Seq.{length-take-le, take-suc, drop-cons, append-snoc, set-at}
-use borrow.Author.Tests.{eq-eqb, ne-eqb}
+use lib.Seq.{length-take-le, take-all, take-suc, drop-cons, append-snoc, set-at}
+use lib.Dec.{eqb}
+use borrow.Author.Tests.{eq-eqb, ne-eqb, eqb-true, eqb-false}
+use Rattle.endian.specs.Pick.{pick}
 use Rattle.wal.specs.Walk.{entries, endOf}
 use Rattle.rules.specs.Order.{count, isBegin}
-use Rattle.rules.specs.Recover.{recordsOf}
+use Rattle.rules.specs.Recover.{recordsOf, tableAfter}
 use Rattle.rules.specs.declared.Answer.{Answer}
 use Rattle.rules.specs.declared.Record.{Record}
 use Rattle.table.specs.Telling.{reach, Orderly}
@@ -48,8 +51,8 @@ pub record Stage (s : List ℕ) (n size : ℕ) : Type 0 where
   pub long : length scratch ≡ size
   pub held : 0 < index → HeldTo s scratch index
 
-pub start : (s : List ℕ) (n : ℕ) (xs : List ℕ) → Stage s n (length xs)
-start s n xs = record { index = 0; within = omega arith; scratch = xs; long = refl; held = λ h. absurd (omega arith) }
+abbrev pub start : (s : List ℕ) (n size : ℕ) (xs : List ℕ) → length xs ≡ size → Stage s n size
+start s n size xs l = record { index = 0; within = omega arith; scratch = xs; long = l; held = λ h. absurd (omega arith) }
 
 module _ {s : List ℕ} {end n rows size : ℕ} (p : Storable s end n rows size) where
   pub begun-all : 0 < n → n ≤ length (recordsOf (entries s) (entries s))
@@ -76,7 +79,7 @@ module _ {s : List ℕ} {end n rows size : ℕ} (p : Storable s end n rows size)
       held = i .held;
     }
 
-    pub step : (xs : List ℕ) → length xs ≡ length (i .scratch) → HeldTo s xs (i .index + 1) → Stage s n size
+    abbrev pub step : (xs : List ℕ) → length xs ≡ length (i .scratch) → HeldTo s xs (i .index + 1) → Stage s n size
     step xs l h = record { index = i .index + 1; within = omega arith; scratch = xs; long = l ∙ i .long; held = λ _. h }
 
     -- and what storing it makes of the table
@@ -88,3 +91,45 @@ module _ {s : List ℕ} {end n rows size : ℕ} (p : Storable s end n rows size)
         let c : k < length ys = omega (arith, p .room) in
         rw (add-one k, drop-cons ys k noRecord c, take-suc all k noRecord b)
         (set-at (take k all) (getD ys k noRecord) (drop (suc k) ys) (getD all k noRecord) k (length-take-le k all (omega arith)) ∙ sym (append-snoc (take k all) (getD all k noRecord) (drop (suc k) ys)))
+
+-- ---- the table of an answer
+
+pub start-rows : (s : List ℕ) (ys : List Record) → ys ≡ storedTo s 0 ys
+start-rows s ys = refl
+
+module _ (s : List ℕ) (a : Answer) (ys : List Record) (size : ℕ) (space : Space size) (ordered : a .number ≡ 0 → Orderly s)
+    (asked : a .number ≡ 0 → (endOf s ≡ a .tail) × (length s < reach) × (count isBegin (entries s) ≡ due a) × (due a ≤ length ys)) where
+  -- a record is due only where nothing is refused
+  accepted : 0 < due a → a .number ≡ 0
+  accepted h = go (a .number) refl
+    where
+      go : (n : ℕ) → a .number ≡ n → a .number ≡ 0
+      go zero e = e
+      go (suc n) e = absurd (omega (arith, h, due-none a (λ z. omega (arith, e, z))))
+
+  pub storable : Storable s (a .tail) (due a) (length ys) size
+  storable = record {
+    orderly = λ h. ordered (accepted h);
+    ends = λ h. asked (accepted h) .0;
+    short = λ h. asked (accepted h) .1;
+    begun = λ h. omega (arith, asked (accepted h) .2);
+    room = room (a .number) refl;
+    space = space;
+  }
+    where
+      room : (n : ℕ) → a .number ≡ n → due a ≤ length ys
+      room zero e = asked e .3
+      room (suc n) e = omega (arith, due-none a (λ z. omega (arith, e, z)))
+
+  -- once all are stored
+  pub stored-all : storedTo s (due a) ys ≡ pick (eqb (a .number) 0) (tableAfter (entries s) ys) ys
+  unfolding tableAfter
+  stored-all = go (eqb (a .number) 0) refl
+    where
+      go : (b : Bool) → eqb (a .number) 0 ≡ b → storedTo s (due a) ys ≡ pick b (tableAfter (entries s) ys) ys
+      go true e =
+          let z = eqb-true (a .number) 0 e in
+          let all = recordsOf (entries s) (entries s) in
+          let k : due a ≡ length all = omega (arith, asked z .2, records-many (entries s) (entries s), begun-length (entries s)) in
+          ap (λ (m : ℕ). storedTo s m ys) k ∙ ap (λ (l : List Record). l ++ drop (length all) ys) (take-all (length all) all (omega arith))
+      go false e = ap (λ (m : ℕ). storedTo s m ys) (due-none a (eqb-false (a .number) 0 e))

@@ -143,8 +143,8 @@ kept-lsn es r = refl
 pub told-rising : (es : List Entry) (c : ℕ) → ((r : Row) → key c (tell es r) ≡ key c r) → {l : List Row} → Rising c l → Rising c (map (tell es) l)
 told-rising es c e {l} r = record {
   at = λ i j p q.
-  let b : j < length l = omega (arith, length-map l (tell es)) in
-  rw (getD-map (tell es) l i (omega arith), getD-map (tell es) l j b, e (getD l i blank), e (getD l j blank)) (r .at i j p b);
+      let b : j < length l = omega (arith, length-map l (tell es)) in
+      rw (getD-map (tell es) l i (omega arith), getD-map (tell es) l j b, e (getD l i blank), e (getD l j blank)) (r .at i j p b);
 }
 
 pub told-changes : (es : List Entry) (l : List Row) (i : ℕ) → i < length (map (tell es) l) → getD (map (tell es) l) i blank .changes ≤ length es

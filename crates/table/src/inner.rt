@@ -213,12 +213,16 @@ fn begins(log: &[u8], from: usize, end: usize, a: &mut [u64]) -> Taken
         }
         let t = e.txn;
         let l = e.lsn;
-        put(a, n, Row {
-            number: t,
-            first: l,
-            outcome: 0,
-            changes: 0,
-        });
+        put(
+            a,
+            n,
+            Row {
+                number: t,
+                first: l,
+                outcome: 0,
+                changes: 0,
+            },
+        );
         n += 1;
         at = at + e.length;
     }
