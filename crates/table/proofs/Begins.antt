@@ -16,10 +16,10 @@ use Rattle.rules.specs.Order.{one, count, any, is, isBegin, begun, isOpen, inOr
 use Rattle.rules.specs.Recover.{outcomeOf}
 use Rattle.rules.proofs.Tests.{false-true, both-true, both-none, either-none, either-false, not-true}
 use Rattle.rules.proofs.OrderLaws.{Passes, InTurn, numbered, last-snoc}
-use Rattle.firsts.proofs.FirstLaws.{any-append}
 use Rattle.table.specs.Rows.{blank, passing, key, Rising}
 use Rattle.table.specs.Telling.{fresh, begunRows, tell}
 use Rattle.table.specs.declared.Row.{Row}
+use Rattle.table.proofs.Telling.{any-append}
 use Rattle.table.proofs.Permuting.{rising-cons}
 
 -- ---- begun or not

@@ -80,12 +80,20 @@ told-records all (e ∷ es) = go (isBegin e) (told-records all es)
 pub records-many : (all es : List Entry) → length (recordsOf all es) ≡ length (begunRows es)
 records-many all es = sym (length-map (recordsOf all es) rowFor) ∙ ap length (sym (told-records all es)) ∙ length-map (begunRows es) (tell all)
 
+pub length-records : (all es : List Entry) → length (recordsOf all es) ≡ count isBegin es
+length-records all es = records-many all es ∙ begun-length es
+
 joined-records : (rs : List Record) → joined (map rowFor rs) ≡ flat rs
 unfolding joined flat
 joined-records [] = refl
 joined-records (r ∷ rs) = rw (joined-records rs)
 
-length-flat : (rs : List Record) → length (flat rs) ≡ stride * length rs
+pub flat-append : (rs qs : List Record) → flat (rs ++ qs) ≡ flat rs ++ flat qs
+unfolding flat
+flat-append [] qs = refl
+flat-append (r ∷ rs) qs = rw (flat-append rs qs)
+
+pub length-flat : (rs : List Record) → length (flat rs) ≡ stride * length rs
 unfolding flat
 length-flat [] = refl
 length-flat (r ∷ rs) = omega (arith, length-append (four r) (flat rs), length-flat rs)

@@ -16,7 +16,6 @@ use Rattle.rules.specs.Recover.{outcomeOf}
 use Rattle.rules.proofs.Tests.{both-true, both-none, either-none, either-false, not-true}
 use Rattle.rules.proofs.OrderLaws.{Passes}
 use Rattle.rules.proofs.Counts.{count-snoc}
-use Rattle.firsts.proofs.FirstLaws.{any-append}
 use Rattle.table.specs.Rows.{blank, key, Rising}
 use Rattle.table.specs.Telling.{tell, toldBy, Entered, begins, zero as by-zero, other, own}
 use Rattle.table.specs.declared.Row.{Row}
@@ -47,6 +46,14 @@ count-le f (e ∷ es) = go (f e) (count-le f es)
     go : (b : Bool) → count f es ≤ length es → one b + count f es ≤ suc (length es)
     go true h = omega arith
     go false h = omega arith
+
+pub any-append : (f : Entry → Bool) (es fs : List Entry) → any f (es ++ fs) ≡ either (any f es) (any f fs)
+any-append f [] fs = refl
+any-append f (e ∷ es) fs = rw (any-append f es fs) (go (f e))
+  where
+    go : (b : Bool) → either b (either (any f es) (any f fs)) ≡ either (either b (any f es)) (any f fs)
+    go true = refl
+    go false = refl
 
 both-all : (b : Bool) → both b true ≡ b
 both-all true = refl

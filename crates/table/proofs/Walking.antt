@@ -4,17 +4,16 @@ use mathlib.Core.Path.{_≡_, refl, sym, ap, _∙_, subst}
 use Prim.Native.Nat.{ℕ, _+_, _≤_, _<_}
 use native.Mathlib.Omega.{arith}
 use mathlib.Core.List.{List, [], _∷_, _++_, append-assoc, append-nil, map}
-use lib.ListN.{length, getD}
-use Rattle.wal.specs.Entry.{Entry, sizesOf, entryOf}
+use lib.ListN.{length, getD, length-append}
+use Rattle.wal.specs.Entry.{Entry, entryOf}
 use Rattle.wal.specs.Read.{first, view}
 use Rattle.wal.specs.Walk.{entries, endOf}
 use Rattle.wal.specs.Prefix.{said, Stands, Met, before, onward}
 use Rattle.wal.specs.declared.EntryView.{EntryView}
-use Rattle.wal.proofs.Prefix.{view-kind, view-txn, before-next, before-end, onward-next, met-split, met-le}
+use Rattle.wal.proofs.Prefix.{Along, start, more, along, stands-at, before-first, view-kind, view-txn, before-next, before-end, onward-next, met-split, met-le}
 use Rattle.wal.proofs.Known.{Ahead}
 use Rattle.rules.specs.Order.{neverFull}
 use Rattle.rules.proofs.OrderLaws.{Passes, InTurn, in-turn}
-use Rattle.firsts.proofs.Log.{place-is}
 use Rattle.table.specs.Rows.{blank, Rising}
 use Rattle.table.specs.Telling.{Orderly, tell, Entered, Untold}
 use Rattle.table.specs.declared.Row.{Row}
@@ -35,13 +34,13 @@ turn-at {s} {p} o m = turn-split [] (before s p) (onward s p) (subst (InTurn nev
 pub passes-at : {s : List ℕ} {p : ℕ} → Orderly s → Met s p → Stands s p → Passes neverFull (before s p) (said s p)
 passes-at {s} {p} o m h = let r : InTurn neverFull (before s p) (said s p ∷ onward s _) = subst (InTurn neverFull (before s p)) (onward-next s h) (turn-at o m) in r .0
 
--- there are no more entries before a place than bytes
-sizes-length : (es : List Entry) → length es ≤ sizesOf es
-sizes-length [] = omega arith
-sizes-length (e ∷ es) = omega (arith, sizes-length es)
-
+-- an entry has bytes, so there are no more entries before a place than bytes
 pub entries-few : {s : List ℕ} {p : ℕ} → Met s p → length (before s p) ≤ p
-entries-few {s} {p} m = omega (arith, place-is s m, sizes-length (before s p))
+entries-few {s} m = go (along m)
+  where
+    go : {p : ℕ} → Along s p → length (before s p) ≤ p
+    go start = rw (before-first s) (omega arith)
+    go (more {p = p} a m h e) = let k = stands-at h in rw (e, before-next s m h, length-append (before s p) (said s p ∷ [])) (omega (arith, go a, k .front, k .low))
 
 -- the walk is at its end
 pub arrived : {s : List ℕ} {p end : ℕ} → Met s p → endOf s ≡ end → end ≤ p → p ≡ endOf s

@@ -22,6 +22,8 @@ use wal::FIRST;
 use wal::Reading;
 use wal::inner::known_at;
 
+pub mod records;
+
 // The types of entries that are no changes.
 const BEGIN: u8 = 1;
 

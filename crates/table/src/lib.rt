@@ -3,7 +3,6 @@ use endian::Lsn;
 use endian::TxnNumber;
 
 pub mod inner;
-pub mod records;
 mod rows;
 
 // How many numbers a record has in a table of numbers.

@@ -2,8 +2,8 @@
 use mathlib.Core.Path.{sym}
 use native.Mathlib.Omega.{arith}
 use Rattle.table.proofs.Stages.{due-none, due-all}
-use Rattle.table.proofs.records.many.Statement.{statement}
-use Rattle.table.proofs.records.many.Tie as tie
+use Rattle.table.proofs.inner.records.many.Statement.{statement}
+use Rattle.table.proofs.inner.records.many.Tie as tie
 
 returns : tie.Need-returns
 returns c = sym (due-none _ (c .if1 .taken))

@@ -3,8 +3,8 @@
 use borrow.Author.Needs.{needs}
 use native.Mathlib.Omega.{arith}
 use Rattle.table.proofs.Holding.{row-within, row-outcome, row-record, row-held}
-use Rattle.table.proofs.records.nth_record.Statement.{statement}
-use Rattle.table.proofs.records.nth_record.Tie as tie
+use Rattle.table.proofs.inner.records.nth_record.Statement.{statement}
+use Rattle.table.proofs.inner.records.nth_record.Tie as tie
 
 row-at-requires : tie.Need-row-at-requires
 row-at-requires c κs = let r = c .before .before .before .before .ready .ensures in row-within _ _ (r .0) (r .1) (r .2)

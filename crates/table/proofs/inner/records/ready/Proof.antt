@@ -7,8 +7,8 @@ use Rattle.wal.proofs.Prefix.{met-first}
 use Rattle.table.specs.Holding.{HeldTo}
 use Rattle.table.proofs.Flattening.{begun-length}
 use Rattle.table.proofs.Holding.{held-small, begun-first, begun-next}
-use Rattle.table.proofs.records.ready.Statement.{statement}
-use Rattle.table.proofs.records.ready.Tie as tie
+use Rattle.table.proofs.inner.records.ready.Statement.{statement}
+use Rattle.table.proofs.inner.records.ready.Tie as tie
 
 load-first : tie.Need-load-requires
 load-first c κs =

@@ -4,8 +4,8 @@ use borrow.Author.Needs.{needs}
 use native.Mathlib.Omega.{arith}
 use lib.ListN.{length-set}
 use Rattle.table.proofs.Holding.{stored-long, loaded}
-use Rattle.table.proofs.records.load.Statement.{statement}
-use Rattle.table.proofs.records.load.Tie as tie
+use Rattle.table.proofs.inner.records.load.Statement.{statement}
+use Rattle.table.proofs.inner.records.load.Tie as tie
 
 write-base : tie.Need-slice-write-scratch-2
 write-base c =

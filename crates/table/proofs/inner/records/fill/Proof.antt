@@ -63,19 +63,19 @@ use Rattle.table.specs.Holding.{Space, HeldTo, noRecord, due}
 use Rattle.table.proofs.Clauses.{needs-two}
 use Rattle.table.proofs.Scratch.{arr, va, zeros, zeros-owned, arr-typed, goes-in, goes-out, big-lit}
 use Rattle.table.proofs.Stages.{Storable, storedTo, Stage, start, start-rows, next, step, stored-next, length-stored, due-all, storable, stored-all}
-use Rattle.table.proofs.records.many as many
-use Rattle.table.proofs.records.many.Symbol as many-def
-use Rattle.table.proofs.records.many.Symbol.{name as #many}
-use Rattle.table.proofs.records.many.Met as many-thm
-use Rattle.table.proofs.records.nth_record as nth
-use Rattle.table.proofs.records.nth_record.Symbol as nth-def
-use Rattle.table.proofs.records.nth_record.Symbol.{name as #nth-record}
-use Rattle.table.proofs.records.nth_record.Met as nth-thm
-use Rattle.table.proofs.records.fill.Key.{name as #fill}
-use Rattle.table.proofs.records.fill as f
-use Rattle.table.proofs.records.fill.Statement as stated
-use Rattle.table.proofs.records.fill.Code as code
-use Rattle.table.proofs.records.fill.Code.Mir as mir′
+use Rattle.table.proofs.inner.records.many as many
+use Rattle.table.proofs.inner.records.many.Symbol as many-def
+use Rattle.table.proofs.inner.records.many.Symbol.{name as #many}
+use Rattle.table.proofs.inner.records.many.Met as many-thm
+use Rattle.table.proofs.inner.records.nth_record as nth
+use Rattle.table.proofs.inner.records.nth_record.Symbol as nth-def
+use Rattle.table.proofs.inner.records.nth_record.Symbol.{name as #nth-record}
+use Rattle.table.proofs.inner.records.nth_record.Met as nth-thm
+use Rattle.table.proofs.inner.records.fill.Key.{name as #fill}
+use Rattle.table.proofs.inner.records.fill as f
+use Rattle.table.proofs.inner.records.fill.Statement as stated
+use Rattle.table.proofs.inner.records.fill.Code as code
+use Rattle.table.proofs.inner.records.fill.Code.Mir as mir′
 
 abbrev stayed : Stays (f.ended .signature .params) (f.ended .kept)
 stayed = (stay-none-slice (0 ∷ []) tt (plain (λ _. u8)) yes, (stay-none (λ _. S.the-row) yes, (stay-slice (1 ∷ []) tt (plain (λ _. T.the-row)), tt)))
@@ -399,5 +399,5 @@ fill-spec 𝓤 H 𝓜 𝓖 𝓡 =
     entered 𝓤 H (tripleOf 𝓤 H (𝓖 .A) f.signature (f.spec 𝓤 H (𝓖 .A) (𝓜 .mem) (𝓡 .run)))
     (tables 𝓤 H 𝓜 𝓡 code.env .C) (tables 𝓤 H 𝓜 𝓡 code.env .Λ) #fill code.function (code.unfolded 𝓤 H 𝓜 𝓡)
     (fill-meets 𝓤 H (𝓖 .A) (givenOf 𝓤 H 𝓜 𝓖) (𝓜 .mem) (𝓡 .run) (tablesOf 𝓤 H 𝓜 (tables 𝓤 H 𝓜 𝓡 code.env))
-    (cited 𝓤 H (Many 𝓤 H (𝓖 .A) (𝓜 .mem) (𝓡 .run)) 𝓜 𝓡 code.env #many many-def.routine code.calls-table·records·many (many-thm.met 𝓤 H 𝓜 𝓖 𝓡))
-    (cited 𝓤 H (NthRecord 𝓤 H (𝓖 .A) (𝓜 .mem) (𝓡 .run)) 𝓜 𝓡 code.env #nth-record nth-def.routine code.calls-table·records·nth-record (nth-thm.met 𝓤 H 𝓜 𝓖 𝓡)))
+    (cited 𝓤 H (Many 𝓤 H (𝓖 .A) (𝓜 .mem) (𝓡 .run)) 𝓜 𝓡 code.env #many many-def.routine code.calls-table·inner·records·many (many-thm.met 𝓤 H 𝓜 𝓖 𝓡))
+    (cited 𝓤 H (NthRecord 𝓤 H (𝓖 .A) (𝓜 .mem) (𝓡 .run)) 𝓜 𝓡 code.env #nth-record nth-def.routine code.calls-table·inner·records·nth-record (nth-thm.met 𝓤 H 𝓜 𝓖 𝓡)))
