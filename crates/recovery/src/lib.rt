@@ -19,6 +19,7 @@ use rules::Located;
 use rules::Record;
 use rules::RowHead;
 use table::STRIDE;
+use table::inner::GUESSES;
 use table::inner::fill_flat;
 use table::inner::records::fill;
 use tally::Tally;
@@ -57,7 +58,7 @@ fn fill_table(log: &[u8], end: usize, table: &mut [u64])
     requires { ⌜ (endOf (now log) ≡ end) × (length (now log) ≤ 16777216) × (count isBegin (entries (now log)) ≤ length (now table) / stride) ⌝ }
     ensures { λ _. ⌜ now (table .exit) ≡ flatAfter (entries (now (log .entry))) (now (table .entry)) ⌝ }
 {
-    let mut guesses = [0u32; 16384];
+    let mut guesses = [0u32; GUESSES];
     fill_flat(log, end, table, &mut guesses[..]);
 }
 

@@ -14,7 +14,7 @@ use Rattle.wal.specs.Prefix.{Met, before, onward}
 use Rattle.wal.proofs.Prefix.{met-split}
 use Rattle.rules.specs.Order.{neverFull}
 use Rattle.rules.proofs.OrderLaws.{InTurn}
-use Rattle.table.specs.Rows.{blank, passing, Same, key, Rising, Arranged}
+use Rattle.table.specs.Rows.{blank, passing, Same, key, Sorted, Rising, Arranged}
 use Rattle.table.specs.Telling.{Orderly, begunRows, tell, Untold}
 use Rattle.table.specs.declared.Row.{Row}
 use Rattle.table.proofs.Orders.{same-trans}
@@ -31,6 +31,10 @@ front-turn es (f ∷ fs) gs h = (h .0, front-turn (es ++ (f ∷ [])) fs gs (h .1
 map-id : (l : List Row) → map (λ (r : Row). r) l ≡ l
 map-id [] = refl
 map-id (r ∷ l) = ap (_∷_ r) (map-id l)
+
+-- rows that are in order stay
+pub arranged-self : {c : ℕ} {l : List Row} → Sorted c l → Arranged c l l
+arranged-self h = record { same = record { at = λ f. refl }; sorted = h }
 
 module _ {s : List ℕ} {from : ℕ} (o : Orderly s) (m : Met s from) (n : ℕ) (l : List Row) (q : l ≡ take n (begunRows (onward s from))) where
   by-lsn : Rising 1 l

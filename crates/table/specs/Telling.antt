@@ -20,6 +20,10 @@ use Rattle.table.specs.declared.Row.{Row}
 abbrev pub reach : ℕ
 reach = 2147483648
 
+-- how many guesses are kept, one for each remainder of a transaction number
+abbrev pub guessed : ℕ
+guessed = 16384
+
 -- the entries of the log keep the order rules
 abbrev pub Orderly : List ℕ → Type 0
 Orderly s = orderFrom neverFull [] (entries s) first .number ≡ 0

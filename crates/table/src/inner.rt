@@ -10,13 +10,14 @@ ghost use Rattle.rules.specs.Shape.{isChanging};
 ghost use Rattle.rules.specs.Order.{count, isBegin};
 ghost use Rattle.table.specs.Flat.{stride, flatAfter};
 ghost use Rattle.table.specs.Rows.{blank, rows, Full, Rising, Found};
-ghost use Rattle.table.specs.Telling.{reach, Orderly, begunRows, Span, tell, toldBy, Entered, Untold};
+ghost use Rattle.table.specs.Telling.{reach, guessed, Orderly, begunRows, Span, tell, toldBy, Entered, Untold};
 use crate::Row;
 use crate::STRIDE;
 use crate::rows::key_at;
 use crate::rows::put;
 use crate::rows::row_at;
 use crate::rows::sort;
+use crate::rows::sorted;
 use endian::TxnNumber;
 use wal::FIRST;
 use wal::Reading;
@@ -35,6 +36,9 @@ const ROLLBACK: u8 = 3;
 const NUMBER: usize = 0;
 
 const FIRST_LSN: usize = 1;
+
+// How many guesses are kept, one for each remainder of a transaction number.
+pub const GUESSES: usize = 16384;
 
 // The row of transaction t, by halves of the rows; how many rows there are where it has none.
 fn search(a: &[u64], t: TxnNumber) -> usize
@@ -60,28 +64,27 @@ fn search(a: &[u64], t: TxnNumber) -> usize
 }
 
 // Where the guess for transaction t is kept.
-fn slot(guesses: &[u32], t: TxnNumber) -> usize
-    requires { ⌜ 0 < length (now guesses) ⌝ }
-    ensures { λ r. ⌜ r < length (now (guesses .entry)) ⌝ }
+fn slot(t: TxnNumber) -> usize
+    ensures { λ r. ⌜ r < guessed ⌝ }
 {
-    (t.0 % guesses.len() as u64) as usize
+    (t.0 % 16384) as usize
 }
 
 // Keeps row i as the guess for transaction t.
 fn keep(guesses: &mut [u32], t: TxnNumber, i: usize)
-    requires { ⌜ (0 < length (now guesses)) × (i < 4294967296) ⌝ }
+    requires { ⌜ (guessed ≤ length (now guesses)) × (i < 4294967296) ⌝ }
 {
-    let h = slot(guesses, t);
+    let h = slot(t);
     guesses[h] = i as u32;
 }
 
 // The same as `search`, after the guess that is kept for t; what is found is kept.
 fn find(a: &[u64], guesses: &mut [u32], t: TxnNumber) -> usize
     requires { ⌜ Rising 0 (rows (now a)) ⌝ }
-    requires { ⌜ (0 < length (now guesses)) × (length (now a) / stride < 4294967296) ⌝ }
+    requires { ⌜ (guessed ≤ length (now guesses)) × (length (now a) / stride < 4294967296) ⌝ }
     ensures { λ r. ⌜ Found (rows (now (a .entry))) (t .0) r ⌝ }
 {
-    let h = slot(guesses, t);
+    let h = slot(t);
     let g = guesses[h] as usize;
     if g < a.len() / STRIDE {
         if key_at(a, g, NUMBER) == t.0 {
@@ -144,7 +147,7 @@ fn told(r: Row, kind: u8) -> Row
 fn enter(a: &mut [u64], guesses: &mut [u32], seen: usize, kind: u8, t: TxnNumber) -> usize
     requires { ⌜ Rising 0 (rows (now a)) ⌝ }
     requires { ⌜ ((i : ℕ) → i < length (rows (now a)) → getD (rows (now a)) i blank .changes < 18446744073709551615) ⌝ }
-    requires { ⌜ Full (now a) × (0 < length (now guesses)) × (length (now a) / stride < 4294967296) × (seen < 4294967296) ⌝ }
+    requires { ⌜ Full (now a) × (guessed ≤ length (now guesses)) × (length (now a) / stride < 4294967296) × (seen < 4294967296) ⌝ }
     ensures { λ _. ⌜ Entered (rows (now (a .entry))) kind (t .0) (rows (now (a .exit))) ⌝ }
     ensures { λ r. ⌜ r ≤ seen + 1 ⌝ }
 {
@@ -170,7 +173,7 @@ fn enter_all(log: &[u8], from: usize, end: usize, a: &mut [u64], guesses: &mut [
     requires { ⌜ Met (now log) from ⌝ }
     requires { ⌜ (endOf (now log) ≡ end) × (length (now log) < reach) ⌝ }
     requires { ⌜ Untold (now log) from (rows (now a)) ⌝ }
-    requires { ⌜ Full (now a) × (0 < length (now guesses)) × (length (now a) / stride < 4294967296) ⌝ }
+    requires { ⌜ Full (now a) × (guessed ≤ length (now guesses)) × (length (now a) / stride < 4294967296) ⌝ }
     ensures { λ _. ⌜ rows (now (a .exit)) ≡ map (tell (entries (now (log .entry)))) (rows (now (a .entry))) ⌝ }
 {
     let mut seen: usize = 0;
@@ -230,13 +233,13 @@ fn begins(log: &[u8], from: usize, end: usize, a: &mut [u64]) -> Taken
     }
 }
 
-// Tells the rows of Begins from a place on by all entries.
-fn settle(log: &[u8], from: usize, end: usize, a: &mut [u64], guesses: &mut [u32])
+// Tells the rows of Begins from a place on by all entries, in any order of their numbers.
+fn settle_sorted(log: &[u8], from: usize, end: usize, a: &mut [u64], guesses: &mut [u32])
     requires { ⌜ Orderly (now log) ⌝ }
     requires { ⌜ Met (now log) from ⌝ }
     requires { ⌜ (endOf (now log) ≡ end) × (length (now log) < reach) ⌝ }
     requires { ⌜ rows (now a) ≡ take (length (now a) / stride) (begunRows (onward (now log) from)) ⌝ }
-    requires { ⌜ Full (now a) × (0 < length (now guesses)) × (length (now a) / stride < 4294967296) ⌝ }
+    requires { ⌜ Full (now a) × (guessed ≤ length (now guesses)) × (length (now a) / stride < 4294967296) ⌝ }
     ensures { λ _. ⌜ rows (now (a .exit)) ≡ map (tell (entries (now (log .entry)))) (rows (now (a .entry))) ⌝ }
 {
     sort(a, NUMBER);
@@ -244,12 +247,28 @@ fn settle(log: &[u8], from: usize, end: usize, a: &mut [u64], guesses: &mut [u32
     sort(a, FIRST_LSN);
 }
 
+// The same; numbers that rise need no sort.
+fn settle(log: &[u8], from: usize, end: usize, a: &mut [u64], guesses: &mut [u32])
+    requires { ⌜ Orderly (now log) ⌝ }
+    requires { ⌜ Met (now log) from ⌝ }
+    requires { ⌜ (endOf (now log) ≡ end) × (length (now log) < reach) ⌝ }
+    requires { ⌜ rows (now a) ≡ take (length (now a) / stride) (begunRows (onward (now log) from)) ⌝ }
+    requires { ⌜ Full (now a) × (guessed ≤ length (now guesses)) × (length (now a) / stride < 4294967296) ⌝ }
+    ensures { λ _. ⌜ rows (now (a .exit)) ≡ map (tell (entries (now (log .entry)))) (rows (now (a .entry))) ⌝ }
+{
+    if sorted(a, NUMBER) {
+        enter_all(log, from, end, a, guesses);
+        return;
+    }
+    settle_sorted(log, from, end, a, guesses);
+}
+
 // The rows of as many Begins from a place on as there is room for, in log order.
 pub fn block(log: &[u8], from: usize, end: usize, a: &mut [u64], guesses: &mut [u32]) -> Taken
     requires { ⌜ Orderly (now log) ⌝ }
     requires { ⌜ Met (now log) from ⌝ }
     requires { ⌜ (endOf (now log) ≡ end) × (length (now log) < reach) ⌝ }
-    requires { ⌜ Full (now a) × (0 < length (now guesses)) ⌝ }
+    requires { ⌜ Full (now a) × (guessed ≤ length (now guesses)) ⌝ }
     ensures { λ r. ⌜ Span (now (log .entry)) from (length (now (a .entry)) / stride) (r .count) (r .next) ⌝ }
     ensures { λ r. ⌜ rows (now (a .exit)) ≡ map (tell (entries (now (log .entry)))) (take (r .count) (begunRows (onward (now (log .entry)) from))) ++ drop (r .count) (rows (now (a .entry))) ⌝ }
 {
@@ -263,7 +282,7 @@ pub fn block(log: &[u8], from: usize, end: usize, a: &mut [u64], guesses: &mut [
 pub fn fill_flat(log: &[u8], end: usize, table: &mut [u64], guesses: &mut [u32])
     requires { ⌜ Orderly (now log) ⌝ }
     requires { ⌜ (endOf (now log) ≡ end) × (length (now log) < reach) × (count isBegin (entries (now log)) ≤ length (now table) / stride) ⌝ }
-    requires { ⌜ 0 < length (now guesses) ⌝ }
+    requires { ⌜ guessed ≤ length (now guesses) ⌝ }
     ensures { λ _. ⌜ now (table .exit) ≡ flatAfter (entries (now (log .entry))) (now (table .entry)) ⌝ }
 {
     let cut = STRIDE * (table.len() / STRIDE);

@@ -10,6 +10,7 @@ ghost use Rattle.rules.specs.Order.{count, isBegin};
 ghost use Rattle.rules.specs.Recover.{recordsOf, tableAfter};
 ghost use Rattle.table.specs.Telling.{reach, Orderly, begunRows};
 ghost use Rattle.table.specs.Holding.{nextOf, baseOf, countOf, Space, Held, HeldTo, Next, noRecord, due};
+use crate::inner::GUESSES;
 use crate::inner::block;
 use crate::rows::row_at;
 use rules::Answer;
@@ -27,9 +28,6 @@ const COUNT: usize = 2;
 
 // How many numbers a block has: 16,380 rows.
 const SCRATCH: usize = 65523;
-
-// How many guesses are kept while a block is made.
-const GUESSES: usize = 16384;
 
 // Makes the block that begins with record i, whose Begin is the first from a place on.
 fn load(log: &[u8], from: usize, end: usize, scratch: &mut [u64], i: usize)
