@@ -160,6 +160,11 @@ module _ (full : ℕ → Bool) where
       go true e (suc i) l k = less (getD (begunRows fs) i blank) (k i (omega arith))
       go false e i l k = less (getD (begunRows fs) i blank) (k i l)
 
+  -- as is that of a Begin after them
+  pub fresh-plain : (es : List Entry) (f : Entry) → Passes full es f → f .kind ≡ begin → plain es (fresh f) ≡ true
+  unfolding isChanging
+  fresh-plain es f h k = rw (ne-eqb (f .txn) 0 (numbered full es f h begin refl refl k), unbegun es f h k)
+
   -- is as those entries tell it
   pub plain-told : (es : List Entry) → InTurn full [] es → (r : Row) → plain es r ≡ true → (tell es r ≡ r) × (r .number .0 ≡ 0 → ⊥)
   unfolding tell outcomeOf

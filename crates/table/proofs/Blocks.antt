@@ -6,7 +6,7 @@ use Prim.Native.Nat.{ℕ, _+_, _*_, _/_, _≤_, _<_}
 use native.Mathlib.Omega.{arith}
 use mathlib.Core.List.{List, _++_, map}
 use lib.ListN.{length, take, drop, length-append}
-use lib.Seq.{length-take-le, take-at, drop-at}
+use lib.Seq.{length-take-le, take-all, take-at, drop-at}
 use lib.Dec.{ltb}
 use borrow.Author.Tests.{ltb-true, ltb-false}
 use Rattle.wal.specs.Walk.{entries, endOf}
@@ -54,12 +54,12 @@ span-all {s} {from} {limit} {n} p h = go (ltb n limit) refl
     go false e = omega (arith, p .many, ltb-false n limit e)
 
 -- the whole table, of which the full rows were lent
-pub flat-table : {s : List ℕ} (table b : List ℕ) {n next : ℕ} → Span s 32 (length (take (stride * (length table / stride)) table) / stride) n next → count isBegin (entries s) ≤ length table / stride
-    → length b ≡ length (take (stride * (length table / stride)) table)
-    → rows b ≡ map (tell (entries s)) (take n (begunRows (onward s 32))) ++ drop n (rows (take (stride * (length table / stride)) table))
+pub flat-table : {s : List ℕ} (table b : List ℕ) → count isBegin (entries s) ≤ length table / stride → length b ≡ length (take (stride * (length table / stride)) table)
+    → rows b ≡ map (tell (entries s)) (begunRows (entries s)) ++ drop (length (begunRows (entries s))) (rows (take (stride * (length table / stride)) table))
     → b ++ drop (stride * (length table / stride)) table ≡ flatAfter (entries s) table
-flat-table {s} table b {n} {next} p h l q =
+flat-table {s} table b h l q =
+    let all = begunRows (entries s) in
     let k = length-take-le (stride * (length table / stride)) table (omega arith) in
-    let e = ap (λ x. length (begunRows x)) (onward-first s) in
     let c = begun-length (entries s) in
-    flat-filled (entries s) table b n l (span-all p (omega arith) ∙ e) (p .room) (rw (onward-first s) at q)
+    flat-filled (entries s) table b (length all) l refl (omega arith)
+    (q ∙ ap (λ (x : List Row). map (tell (entries s)) x ++ drop (length all) (rows (take (stride * (length table / stride)) table))) (sym (take-all (length all) all (omega arith))))

@@ -20,13 +20,8 @@ use Rattle.table.specs.declared.Row.{Row}
 use Rattle.table.proofs.Orders.{same-trans}
 use Rattle.table.proofs.Permuting.{passing-take, all-same, same-map, sorted-rising, rising-take, rising-same}
 use Rattle.table.proofs.Telling.{map-same, kept-lsn, told-rising}
-use Rattle.table.proofs.Walking.{turn-all, turn-at}
+use Rattle.table.proofs.Walking.{turn-all, turn-at, front-turn}
 use Rattle.table.proofs.Begins.{once, lsns-rise, plain, plain-begun, plain-told}
-
--- the entries before a place are in order
-front-turn : (es fs gs : List Entry) → InTurn neverFull es (fs ++ gs) → InTurn neverFull es fs
-front-turn es [] gs h = tt
-front-turn es (f ∷ fs) gs h = (h .0, front-turn (es ++ (f ∷ [])) fs gs (h .1))
 
 map-id : (l : List Row) → map (λ (r : Row). r) l ≡ l
 map-id [] = refl

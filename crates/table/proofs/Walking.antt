@@ -25,6 +25,11 @@ turn-split : (es fs gs : List Entry) → InTurn neverFull es (fs ++ gs) → InTu
 turn-split es [] gs h = rw (append-nil es) h
 turn-split es (f ∷ fs) gs h = subst (λ (l : List Entry). InTurn neverFull l gs) (append-assoc es (f ∷ []) fs) (turn-split (es ++ (f ∷ [])) fs gs (h .1))
 
+-- the entries in front of others are in order
+pub front-turn : (es fs gs : List Entry) → InTurn neverFull es (fs ++ gs) → InTurn neverFull es fs
+front-turn es [] gs h = tt
+front-turn es (f ∷ fs) gs h = (h .0, front-turn (es ++ (f ∷ [])) fs gs (h .1))
+
 pub turn-all : (s : List ℕ) → Orderly s → InTurn neverFull [] (entries s)
 turn-all s o = in-turn neverFull [] (entries s) first o
 

@@ -5,6 +5,8 @@ use mathlib.Core.List.{List, [], _∷_, _++_, map}
 use lib.ListN.{length, getD, set, take, drop}
 use lib.Dec.{eqb}
 use Rattle.endian.specs.Pick.{pick, consIf}
+use Rattle.endian.specs.declared.Lsn.{Lsn}
+use Rattle.endian.specs.declared.TxnNumber.{TxnNumber}
 use Rattle.wal.specs.Entry.{Entry, begin, commit, rollback}
 use Rattle.wal.specs.Read.{first}
 use Rattle.wal.specs.Walk.{entries, endOf}
@@ -30,9 +32,12 @@ Orderly s = orderFrom neverFull [] (entries s) first .number ≡ 0
 
 -- ---- rows of Begins
 
--- the row of a Begin, before any other entry of its transaction
+-- the row of a Begin by its number and its LSN, before any other entry of its transaction
+abbrev pub newRow : TxnNumber → Lsn → Row
+newRow t l = record { number = t; first = l; outcome = 0; changes = 0 }
+
 abbrev pub fresh : Entry → Row
-fresh e = record { number = record { 0 = e .txn }; first = record { 0 = e .lsn }; outcome = 0; changes = 0 }
+fresh e = newRow (record { 0 = e .txn }) (record { 0 = e .lsn })
 
 -- one for each Begin, in log order
 unfoldable pub begunRows : List Entry → List Row

@@ -1,8 +1,9 @@
 // The transaction table, for callers that know the log to be accepted.
 ghost use mathlib.Core.Path.{_≡_};
+ghost use mathlib.Core.Bool.{true};
 ghost use mathlib.Core.List.{_++_, map};
 ghost use Prim.Native.Nat.{ℕ, _+_, _*_, _/_, _≤_, _<_};
-ghost use lib.ListN.{length, getD, take, drop};
+ghost use lib.ListN.{length, getD, set, take, drop};
 ghost use Rattle.wal.specs.Read.{first};
 ghost use Rattle.wal.specs.Walk.{entries, endOf};
 ghost use Rattle.wal.specs.Prefix.{Met, onward};
@@ -10,7 +11,7 @@ ghost use Rattle.rules.specs.Shape.{isChanging};
 ghost use Rattle.rules.specs.Order.{count, isBegin};
 ghost use Rattle.table.specs.Flat.{stride, flatAfter};
 ghost use Rattle.table.specs.Rows.{blank, rows, Full, Rising, Found};
-ghost use Rattle.table.specs.Telling.{reach, guessed, Orderly, begunRows, Span, tell, toldBy, Entered, Untold};
+ghost use Rattle.table.specs.Telling.{reach, guessed, Orderly, newRow, begunRows, Span, tell, toldBy, Entered, Untold};
 use crate::Row;
 use crate::STRIDE;
 use crate::rows::key_at;
@@ -18,6 +19,7 @@ use crate::rows::put;
 use crate::rows::row_at;
 use crate::rows::sort;
 use crate::rows::sorted;
+use endian::Lsn;
 use endian::TxnNumber;
 use wal::FIRST;
 use wal::Reading;
@@ -278,6 +280,77 @@ pub fn block(log: &[u8], from: usize, end: usize, a: &mut [u64], guesses: &mut [
     t
 }
 
+// Puts row n for a Begin.
+fn begin_row(a: &mut [u64], guesses: &mut [u32], n: usize, t: TxnNumber, l: Lsn)
+    requires { ⌜ Full (now a) × (guessed ≤ length (now guesses)) × (n < length (now a) / stride) × (n < 4294967296) ⌝ }
+    ensures { λ _. ⌜ rows (now (a .exit)) ≡ set (rows (now (a .entry))) n (newRow t l) ⌝ }
+{
+    put(a, n, Row {
+        number: t,
+        first: l,
+        outcome: 0,
+        changes: 0,
+    });
+    keep(guesses, t, n);
+}
+
+// Enters an entry into the first n rows.
+fn enter_front(a: &mut [u64], n: usize, guesses: &mut [u32], kind: u8, t: TxnNumber)
+    requires { ⌜ Rising 0 (take n (rows (now a))) ⌝ }
+    requires { ⌜ ((i : ℕ) → i < length (take n (rows (now a))) → getD (take n (rows (now a))) i blank .changes < 18446744073709551615) ⌝ }
+    requires { ⌜ (n ≤ length (now a) / stride) × (guessed ≤ length (now guesses)) × (n < 4294967296) ⌝ }
+    ensures { λ _. ⌜ Entered (take n (rows (now (a .entry)))) kind (t .0) (take n (rows (now (a .exit)))) ⌝ }
+    ensures { λ _. ⌜ drop n (rows (now (a .exit))) ≡ drop n (rows (now (a .entry))) ⌝ }
+{
+    let cut = STRIDE * n;
+    enter(&mut a[..cut], guesses, n, kind, t);
+}
+
+// The rows of all Begins, told by all entries, in one walk, as long as their numbers rise. Says whether they do.
+fn rising(log: &[u8], end: usize, a: &mut [u64], guesses: &mut [u32]) -> bool
+    requires { ⌜ Orderly (now log) ⌝ }
+    requires { ⌜ (endOf (now log) ≡ end) × (length (now log) < reach) × (length (begunRows (entries (now log))) ≤ length (now a) / stride) ⌝ }
+    requires { ⌜ Full (now a) × (guessed ≤ length (now guesses)) ⌝ }
+    ensures { λ r. ⌜ (r ≡ true → rows (now (a .exit)) ≡ map (tell (entries (now (log .entry)))) (begunRows (entries (now (log .entry)))) ++ drop (length (begunRows (entries (now (log .entry))))) (rows (now (a .entry)))) ⌝ }
+    ensures { λ _. ⌜ drop (length (begunRows (entries (now (log .entry))))) (rows (now (a .exit))) ≡ drop (length (begunRows (entries (now (log .entry))))) (rows (now (a .entry))) ⌝ }
+{
+    let mut n: usize = 0;
+    let mut last: u64 = 0;
+    let mut at = FIRST;
+    loop {
+        let Reading::Whole(e) = known_at(log, at, end) else {
+            return true;
+        };
+        let t = e.txn;
+        if e.kind != BEGIN {
+            enter_front(a, n, guesses, e.kind, t);
+            at = at + e.length;
+            continue;
+        }
+        if t.0 <= last {
+            return false;
+        }
+        let l = e.lsn;
+        begin_row(a, guesses, n, t, l);
+        last = t.0;
+        n += 1;
+        at = at + e.length;
+    }
+}
+
+// The rows of all Begins, told by all entries.
+fn fill_rows(log: &[u8], end: usize, a: &mut [u64], guesses: &mut [u32])
+    requires { ⌜ Orderly (now log) ⌝ }
+    requires { ⌜ (endOf (now log) ≡ end) × (length (now log) < reach) × (length (begunRows (entries (now log))) ≤ length (now a) / stride) ⌝ }
+    requires { ⌜ Full (now a) × (guessed ≤ length (now guesses)) ⌝ }
+    ensures { λ _. ⌜ rows (now (a .exit)) ≡ map (tell (entries (now (log .entry)))) (begunRows (entries (now (log .entry)))) ++ drop (length (begunRows (entries (now (log .entry))))) (rows (now (a .entry))) ⌝ }
+{
+    if rising(log, end, a, guesses) {
+        return;
+    }
+    block(log, FIRST, end, a, guesses);
+}
+
 // Fills the front of a table with the records of an accepted log's transactions.
 pub fn fill_flat(log: &[u8], end: usize, table: &mut [u64], guesses: &mut [u32])
     requires { ⌜ Orderly (now log) ⌝ }
@@ -286,5 +359,5 @@ pub fn fill_flat(log: &[u8], end: usize, table: &mut [u64], guesses: &mut [u32])
     ensures { λ _. ⌜ now (table .exit) ≡ flatAfter (entries (now (log .entry))) (now (table .entry)) ⌝ }
 {
     let cut = STRIDE * (table.len() / STRIDE);
-    block(log, FIRST, end, &mut table[..cut], guesses);
+    fill_rows(log, end, &mut table[..cut], guesses);
 }
