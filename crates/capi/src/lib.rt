@@ -33,7 +33,7 @@ const TORN: u64 = 2;
 const DAMAGED: u64 = 4;
 
 // The version of the interface.
-const VERSION: u32 = 1;
+const VERSION: u32 = 2;
 
 // Puts numbers into a lent array, as many as fit.
 fn give(numbers: &[u64], out: &mut [u64])

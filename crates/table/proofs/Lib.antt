@@ -15,3 +15,4 @@ pub mod Holding
 pub mod Stages
 pub mod Clauses
 pub mod Scratch
+pub mod Times

@@ -18,6 +18,7 @@ use crate::rows::put;
 use crate::rows::row_at;
 use crate::rows::sort;
 use crate::rows::sorted;
+use endian::Lsn;
 use endian::TxnNumber;
 use wal::FIRST;
 use wal::Reading;
@@ -109,19 +110,23 @@ fn is_change(kind: u8) -> bool
     kind == 10
 }
 
-// The row after one more entry of its transaction, of a type.
-fn told(r: Row, kind: u8) -> Row
+// The row after one more entry of its transaction, of a type and an LSN.
+fn told(r: Row, kind: u8, lsn: Lsn) -> Row
     requires { ⌜ r .changes < 18446744073709551615 ⌝ }
-    ensures { λ q. ⌜ q ≡ toldBy kind r ⌝ }
+    ensures { λ q. ⌜ q ≡ toldBy kind lsn r ⌝ }
 {
     let number = r.number;
     let first = r.first;
+    let ending = r.ending;
+    let last = r.last;
     if kind == COMMIT {
         return Row {
             number: number,
             first: first,
             outcome: 1,
             changes: r.changes,
+            ending: lsn,
+            last: last,
         };
     }
     if kind == ROLLBACK {
@@ -130,6 +135,8 @@ fn told(r: Row, kind: u8) -> Row
             first: first,
             outcome: 2,
             changes: r.changes,
+            ending: lsn,
+            last: last,
         };
     }
     if is_change(kind) {
@@ -138,17 +145,19 @@ fn told(r: Row, kind: u8) -> Row
             first: first,
             outcome: r.outcome,
             changes: r.changes + 1,
+            ending: ending,
+            last: lsn,
         };
     }
     r
 }
 
 // Enters an entry of transaction t, after `seen` Begins: the row of a Begin is guessed to be the next one. Says how many Begins were seen then.
-fn enter(a: &mut [u64], guesses: &mut [u32], seen: usize, kind: u8, t: TxnNumber) -> usize
+fn enter(a: &mut [u64], guesses: &mut [u32], seen: usize, kind: u8, t: TxnNumber, lsn: Lsn) -> usize
     requires { ⌜ Rising 0 (rows (now a)) ⌝ }
     requires { ⌜ ((i : ℕ) → i < length (rows (now a)) → getD (rows (now a)) i blank .changes < 18446744073709551615) ⌝ }
     requires { ⌜ Full (now a) × (guessed ≤ length (now guesses)) × (length (now a) / stride < 4294967296) × (seen < 4294967296) ⌝ }
-    ensures { λ _. ⌜ Entered (rows (now (a .entry))) kind (t .0) (rows (now (a .exit))) ⌝ }
+    ensures { λ _. ⌜ Entered (rows (now (a .entry))) kind (t .0) lsn (rows (now (a .exit))) ⌝ }
     ensures { λ r. ⌜ r ≤ seen + 1 ⌝ }
 {
     if t.0 == 0 {
@@ -163,7 +172,7 @@ fn enter(a: &mut [u64], guesses: &mut [u32], seen: usize, kind: u8, t: TxnNumber
         return seen;
     }
     let r = row_at(a, j);
-    put(a, j, told(r, kind));
+    put(a, j, told(r, kind, lsn));
     seen
 }
 
@@ -183,7 +192,8 @@ fn enter_all(log: &[u8], from: usize, end: usize, a: &mut [u64], guesses: &mut [
             return;
         };
         let t = e.txn;
-        seen = enter(a, guesses, seen, e.kind, t);
+        let l = e.lsn;
+        seen = enter(a, guesses, seen, e.kind, t, l);
         at = at + e.length;
     }
 }
@@ -226,6 +236,8 @@ fn begins(log: &[u8], from: usize, end: usize, a: &mut [u64]) -> Taken
                 first: l,
                 outcome: 0,
                 changes: 0,
+                ending: Lsn(0),
+                last: Lsn(0),
             },
         );
         n += 1;

@@ -187,7 +187,7 @@ fn overview() -> String {
          Use: lumbraquay COMMAND [ARGUMENTS], where COMMAND is\n",
     );
     for command in commands::ALL {
-        text += &format!("  {:<9} {}\n", command.name, command.about);
+        text += &format!("  {:<12} {}\n", command.name, command.about);
     }
     text + "\n`lumbraquay COMMAND --help` tells more. Exit status: 0 done, 3 refused (the answer says why), 2 wrong use \
             or trouble\nwith a file, 4 done, but the report could not be written. 2 and 3 leave every file as it was.\n"

@@ -5,9 +5,9 @@ use library::{Step, Verdict, LOG_HEAD_BYTES, STEP_DAMAGED, STEP_END, STEP_ENTRY,
 
 use crate::advice::{refusal_fields, text, unless_refused};
 use crate::args::{Choice, Command, Parsed, CATALOG, JSON};
-use crate::catalog::TableNames;
+use crate::catalog::{Catalog, TableNames};
 use crate::failure::Failure;
-use crate::input::{head_fields, Log, Pages, Read};
+use crate::input::{head_fields, Log, Read};
 use crate::json::Json;
 use crate::output::Output;
 use crate::show;
@@ -59,25 +59,6 @@ struct Start {
     filter: Filter,
     payload: bool,
     catalog: Option<Catalog>,
-}
-
-/// The page file that names tables.
-struct Catalog {
-    pages: Pages,
-    names: TableNames,
-}
-
-impl Catalog {
-    /// What --catalog names, if it is given.
-    fn read(parsed: &Parsed, output: &mut Output) -> Result<Option<Catalog>, Failure> {
-        let Some(pages) = Pages::chosen(parsed, CATALOG.name)? else {
-            return Ok(None);
-        };
-        let verdict = library::verify(pages.magic, &pages.bytes);
-        unless_refused(parsed, output, verdict, Read::pages(&pages))?;
-        let names = TableNames::of(&pages);
-        Ok(Some(Catalog { pages, names }))
-    }
 }
 
 impl Start {

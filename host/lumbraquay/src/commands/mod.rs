@@ -11,6 +11,7 @@ mod row;
 mod rows;
 mod table;
 mod tables;
+mod transactions;
 mod verify;
 
 use library::refusal::NO_SUCH_PAGE;
@@ -25,6 +26,7 @@ use crate::output::Output;
 pub const ALL: &[Command] = &[
     demo::COMMAND,
     recover::COMMAND,
+    transactions::COMMAND,
     verify::COMMAND,
     log::COMMAND,
     pages::COMMAND,

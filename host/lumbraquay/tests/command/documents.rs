@@ -89,8 +89,19 @@ fn run(name: &str, document: &str) -> Vec<String> {
 fn the_transcript_is_what_is_printed() {
     let lines = run("the transcript", TRANSCRIPT);
     for command in [
-        "demo", "recover", "verify", "log", "pages", "rows", "row", "tables", "table", "freemap",
-        "report", "replay",
+        "demo",
+        "recover",
+        "transactions",
+        "verify",
+        "log",
+        "pages",
+        "rows",
+        "row",
+        "tables",
+        "table",
+        "freemap",
+        "report",
+        "replay",
     ] {
         let start = format!("lumbraquay {command} ");
         assert!(

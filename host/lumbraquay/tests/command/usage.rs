@@ -2,9 +2,20 @@
 
 use crate::sandbox::Sandbox;
 
-const COMMANDS: [&str; 12] = [
-    "demo", "recover", "verify", "log", "pages", "rows", "row", "tables", "table", "freemap",
-    "report", "replay",
+const COMMANDS: [&str; 13] = [
+    "demo",
+    "recover",
+    "transactions",
+    "verify",
+    "log",
+    "pages",
+    "rows",
+    "row",
+    "tables",
+    "table",
+    "freemap",
+    "report",
+    "replay",
 ];
 
 #[test]
