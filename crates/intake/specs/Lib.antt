@@ -1,0 +1,4 @@
+pub mod Orders
+pub mod Search
+pub mod Places
+pub mod Blocks
