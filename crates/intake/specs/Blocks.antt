@@ -76,7 +76,7 @@ pub record Firstly (k : ℕ → ℕ) (t : ℕ) (l : List ℕ) (f : ℕ) : Type 0
 
 -- of the pairs of a place of b and a later one of d with the same key the least, or nowhere
 pub record Least (k : ℕ → ℕ) (b d : List ℕ) (p : Pair) : Type 0 where
-  pub real : p .first < nowhere → Has (p .first) b × Has (p .second) d × (p .first < p .second) × (k (p .first) ≡ k (p .second))
+  pub real : p .first < nowhere → Has (p .first) b × Has (p .second) d × (p .first < p .second) × (k (p .first) ≡ k (p .second)) × (p .second < nowhere)
   pub least : (x y : ℕ) → Has x b → Has y d → x < y → k x ≡ k y → (p .first < x) ⊎ ((p .first ≡ x) × (p .second ≤ y))
 
 -- a pair, or a lesser one of two places of which the second stands behind the first

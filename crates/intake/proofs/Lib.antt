@@ -1,0 +1,10 @@
+pub mod Counting
+pub mod Parting
+pub mod Sorting
+pub mod Halves
+pub mod OrderRows
+pub mod Walking
+pub mod Searching
+pub mod Ranking
+pub mod Scanning
+pub mod Pairing
