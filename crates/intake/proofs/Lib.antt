@@ -7,4 +7,5 @@ pub mod Walking
 pub mod Searching
 pub mod Ranking
 pub mod Scanning
+pub mod Filling
 pub mod Pairing

@@ -35,16 +35,16 @@ fn met(pages: &[u8], row: Row, low: u64, high: u64, known: FoundOrder) -> FoundO
     if known.found {
         return known;
     }
-    if !has_mark(pages, row.offset, low, high) {
-        return known;
+    if has_mark(pages, row.offset, low, high) {
+        let v = known.verdict;
+        return FoundOrder {
+            verdict: v,
+            found: true,
+            order: order_at(pages, row.page, row.slot, row.offset),
+            short: known.short,
+        };
     }
-    let v = known.verdict;
-    FoundOrder {
-        verdict: v,
-        found: true,
-        order: order_at(pages, row.page, row.slot, row.offset),
-        short: known.short,
-    }
+    known
 }
 
 // The first visible order with the mark of these halves, and how many visible payloads are short.

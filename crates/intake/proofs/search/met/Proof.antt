@@ -13,16 +13,16 @@ returns-2 c = let a = c .before .before .before .before in with-found _ _ (a .ar
 has-mark-requires : tie.Need-has-mark-requires
 has-mark-requires c κs = omega (arith, c .before .if1 .left, c .before .before .before .before .pre .0 .within)
 
-returns-3 : tie.Need-returns-3
-returns-3 c = let a = c .before .before .before .before .before .before in with-other _ _ (a .args .row) (a .args .known) (a .pre .0) (c .before .before .before .if1 .left) _ (c .before .has-mark .ensures) (c .if3 .taken)
-
 order-at-requires : tie.Need-order-at-requires
 order-at-requires c κs = omega (arith, c .before .before .before .before .if1 .left, c .before .before .before .before .before .before .before .pre .0 .within)
 
-returns-4 : tie.Need-returns-4
-returns-4 c =
+returns-3 : tie.Need-returns-3
+returns-3 c =
     let a = c .before .before .before .before .before .before .before .before in
-    with-here _ _ (a .args .row) (a .args .known) (a .pre .0) (c .before .before .before .before .before .if1 .left) _ (c .before .before .before .has-mark .ensures) (c .before .before .before .before .if2 .left) (c .before .before .if3 .left) _ (c .order-at .ensures)
+    with-here _ _ (a .args .row) (a .args .known) (a .pre .0) (c .before .before .before .before .before .if1 .left) _ (c .before .before .before .has-mark .ensures) (c .before .before .before .before .if2 .left) (c .before .before .if3 .taken) _ (c .order-at .ensures)
+
+returns-4 : tie.Need-returns-4
+returns-4 c = let a = c .before .before .before .before .before .before in with-other _ _ (a .args .row) (a .args .known) (a .pre .0) (c .before .before .before .if1 .left) _ (c .before .has-mark .ensures) (c .if3 .left)
 
 pub met-spec : {M : Type 1} → statement M
-met-spec = tie.close (tie.spec (λ c. search needs) returns returns-2 has-mark-requires returns-3 order-at-requires returns-4)
+met-spec = tie.close (tie.spec (λ c. search needs) returns returns-2 has-mark-requires order-at-requires returns-3 returns-4)
