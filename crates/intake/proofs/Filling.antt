@@ -30,7 +30,7 @@ pub put-none : (s : List ℕ) (i k : ℕ) (a : List ℕ) → Put s i k a a i k 0
 put-none s i k a = record { long = refl; within = omega arith; goes = refl; places = places-none s }
 
 module _ {s : List ℕ} {i₀ k₀ : ℕ} {a₀ a : List ℕ} {i k len : ℕ} (p : Put s i₀ k₀ a₀ a i k len) where
-  module _ (room : len < length a) {x j m : ℕ} (e : placesFrom s i k ≡ x ∷ placesFrom s j m) (good : Place s x) where
+  module _ (room : len < length a) (x j m : ℕ) (e : placesFrom s i k ≡ x ∷ placesFrom s j m) (good : Place s x) where
     stored : take (len + 1) (set a len x) ≡ take len a ++ (x ∷ [])
     stored =
         take-next (set a len x) len (simp length-set room)

@@ -20,7 +20,8 @@ use Rattle.page.specs.declared.NextRow.{NextRow}
 use Rattle.page.specs.declared.NextRow.the-variants.{Refused, At, NoMore}
 use Rattle.page.specs.Layout.{pagesIn}
 use Rattle.page.proofs.ListedRows.{Each}
-use Rattle.page.proofs.RowLists.{rowOr}
+use Rattle.page.proofs.Picks.{never}
+use Rattle.page.proofs.Verdicts.{accepted-size}
 use Rattle.intake.specs.Orders.{markOf, isOrder, bears, orderOf, sameMark, noneRepeated, pairOr, repeatedIn, ordersRepeated}
 use Rattle.intake.specs.declared.RepeatedOrders.{RepeatedOrders}
 use Rattle.intake.specs.declared.Order.{Order}
@@ -57,11 +58,8 @@ module _ (s : List ℕ) (few : length s ≤ 1073741824) where
   order-is r h e =
       elim (decLe 48 (r .length)) [
         | yes l ↦ l
-        | no l ↦ let z : false ≡ true = sym (short-row s r (h .stands) (omega arith)) ∙ e in absurd (apart z)
+        | no l ↦ never (sym (short-row s r (h .stands) (omega arith)) ∙ e)
       ]
-    where
-      apart : false ≡ true → ⊥
-      apart z = let w : _≡_ {A = ℕ} 0 1 = ap (λ (t : Bool). pick t 1 0) z in absurd (omega arith)
 
   place-small : (r : Row) → Sound s r → placeOf r < nowhere
   unfolding placeOf
@@ -184,7 +182,7 @@ module _ (s : List ℕ) (few : length s ≤ 1073741824) (fine : Listable s) (p :
 module _ (magic : ℕ) (s : List ℕ) where
   -- pages that verification accepts are few
   pub area-few : verdictOf magic s .number ≡ 0 → length s ≤ 1073741824
-  area-few e = ?
+  area-few e = let r = accepted-size magic s 0 e in omega (arith, r .0, r .1)
 
   module _ (v : Verdict) (is : v ≡ verdictOf magic s) where
     pub whole-refused : (v .number ≡ 0 → ⊥) → (r : RepeatedOrders) → r ≡ noneRepeated v → r ≡ ordersRepeated magic s

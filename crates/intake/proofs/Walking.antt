@@ -6,10 +6,8 @@ use mathlib.Core.Bool.{Bool, true, false}
 use Prim.Native.Nat.{ℕ, zero, suc, _+_, _*_, _≤_, _<_}
 use native.Mathlib.Omega.{arith}
 use mathlib.Core.List.{List, [], _∷_, _++_}
-use lib.Dec.{eqb}
 use lib.ListN.{length}
 use Rattle.endian.specs.Pick.{pick, consIf}
-use Rattle.endian.specs.Numbers.{Bytes}
 use Rattle.page.specs.Layout.{pagesIn}
 use Rattle.page.specs.Rows.{visible, visibleRows, rowPayload, atOrAfter, firstAt, rowsAt, Listable}
 use Rattle.page.specs.declared.Row.{Row}
@@ -18,12 +16,11 @@ use Rattle.page.specs.declared.NextRow.the-variants.{At, NoMore}
 use Rattle.page.proofs.ListedRows.{Each, Standing, rows-each, rows-stand}
 use Rattle.page.proofs.RowLists.{Before, Rising, lower, down, rising-pages, all-at, rowOr, row-next}
 use Rattle.page.proofs.Visibility.{empty}
+use Rattle.page.proofs.Picks.{never}
 use Rattle.intake.specs.Orders.{isOrder}
-use Rattle.intake.specs.Places.{placeOf, placesOf, placesFrom, one, count, Has, Place, Places, Met}
+use Rattle.intake.specs.Places.{placeOf, placesOf, placesFrom, Place, Met}
 use Rattle.intake.specs.declared.orders.NextOrder.{NextOrder}
-use Rattle.intake.proofs.Counting.{places-none}
-use Rattle.intake.proofs.OrderRows.{short-row, order-row, place-good, offset-small}
-use borrow.Author.Tests.{eqb-true}
+use Rattle.intake.proofs.OrderRows.{short-row, order-row, offset-small}
 
 -- a row of a listing: it stands in the page area, on a page that is lent
 pub record Sound (s : List ℕ) (r : Row) : Type 0 where
@@ -90,17 +87,11 @@ module _ (s : List ℕ) (i k : ℕ) where
     places-here h = next ∙ rw (order-row s r st h)
 
 -- what a step answers
-pub met-none : (s : List ℕ) (i k : ℕ) (n : NextOrder) → n .more ≡ false → placesFrom s i k ≡ [] → Met s i k n
-met-none s i k n e h = record { none = λ q. h; some = λ q. absurd (apart (sym e ∙ q)) }
-  where
-    apart : false ≡ true → ⊥
-    apart z = let w : _≡_ {A = ℕ} 0 1 = ap one z in absurd (omega arith)
+pub met-none : (s : List ℕ) (i k : ℕ) (n : NextOrder) → n .over ≡ true → placesFrom s i k ≡ [] → Met s i k n
+met-none s i k n e h = record { none = λ q. h; some = λ q. never (sym q ∙ e) }
 
-pub met-some : (s : List ℕ) (i k : ℕ) (n : NextOrder) → n .more ≡ true → placesFrom s i k ≡ n .place ∷ placesFrom s (n .page) (n .slot) → Place s (n .place) → Met s i k n
-met-some s i k n e h p = record { none = λ q. absurd (apart (sym q ∙ e)); some = λ q. (h, p) }
-  where
-    apart : false ≡ true → ⊥
-    apart z = let w : _≡_ {A = ℕ} 0 1 = ap one z in absurd (omega arith)
+pub met-some : (s : List ℕ) (i k : ℕ) (n : NextOrder) → n .over ≡ false → placesFrom s i k ≡ n .place ∷ placesFrom s (n .page) (n .slot) → Place s (n .place) → Met s i k n
+met-some s i k n e h p = record { none = λ q. never (sym e ∙ q); some = λ q. (h, p) }
 
 -- ---- the places rise
 

@@ -86,5 +86,5 @@ pub record Places (s l : List ℕ) : Type 0 where
 
 -- what a step to the next order at or after slot k of page i finds
 pub record Met (s : List ℕ) (i k : ℕ) (n : NextOrder) : Type 0 where
-  pub none : n .more ≡ false → placesFrom s i k ≡ []
-  pub some : n .more ≡ true → (placesFrom s i k ≡ n .place ∷ placesFrom s (n .page) (n .slot)) × Place s (n .place)
+  pub none : n .over ≡ true → placesFrom s i k ≡ []
+  pub some : n .over ≡ false → (placesFrom s i k ≡ n .place ∷ placesFrom s (n .page) (n .slot)) × Place s (n .place)

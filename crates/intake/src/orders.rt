@@ -33,9 +33,9 @@ const QUANTITY_AT: usize = ROW_HEAD_BYTES + 20;
 // The bytes of the shortest tuple that is an order.
 pub const TUPLE_BYTES: usize = ROW_HEAD_BYTES + ORDER_BYTES;
 
-// A step to the next order: whether there is one, its place, and the page and slot to go on from.
+// A step to the next order: whether there is none, its place, and the page and slot to go on from.
 pub struct NextOrder {
-    pub more: bool,
+    pub over: bool,
     pub place: u64,
     pub page: usize,
     pub slot: usize,
@@ -120,7 +120,7 @@ pub fn next_order(pages: &[u8], index: usize, slot: usize) -> NextOrder
         let next = next_row(pages, i, k);
         let NextRow::At(row) = next else {
             return NextOrder {
-                more: false,
+                over: true,
                 place: 0,
                 page: 0,
                 slot: 0,
@@ -130,7 +130,7 @@ pub fn next_order(pages: &[u8], index: usize, slot: usize) -> NextOrder
         k = row.slot + 1;
         if TUPLE_BYTES <= row.length {
             return NextOrder {
-                more: true,
+                over: false,
                 place: place_of(row),
                 page: i,
                 slot: k,

@@ -46,7 +46,7 @@ fn fill(pages: &[u8], index: usize, slot: usize, a: &mut [u64]) -> Block
     let mut len: usize = 0;
     while len < a.len() {
         let n = next_order(pages, i, k);
-        if !n.more {
+        if n.over {
             return Block {
                 len,
                 page: i,
@@ -147,7 +147,7 @@ fn pass(pages: &[u8], index: usize, slot: usize, a: &[u64]) -> Pair
     let mut k = slot;
     loop {
         let n = next_order(pages, i, k);
-        if !n.more {
+        if n.over {
             return best;
         }
         let x = n.place;

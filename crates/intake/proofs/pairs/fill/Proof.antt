@@ -22,7 +22,7 @@ returns c = filled-end (c .before .before .before .before .loop .inv) (c .before
 loop-again : tie.Need-loop-again Inv-loop μ-loop
 loop-again c =
     let m = c .before .before .next-order .ensures .some (c .if1 .left) in
-    put-more (c .before .before .before .before .loop .inv) (c .before .before .before .loop-test .taken) (m .0) (m .1)
+    put-more (c .before .before .before .before .loop .inv) (c .before .before .before .loop-test .taken) _ _ _ (m .0) (m .1)
 
 returns-2 : tie.Need-returns-2 Inv-loop μ-loop
 returns-2 c = filled-full (c .before .loop .inv) (c .loop-test .left) (c .before .before .before .before .pre .1 .1)

@@ -46,7 +46,7 @@ loop-again c =
     let l = c .before .before .before .before .before .before .before .before .before .before .before .loop in
     let f = c .before .before .before .before .before .before .before .before .before .fill .ensures in
     (block-none _ _ _ _ _ (f .goes) (places-ascend (s .args .pages .now) (s .pre .1 .0) (s .pre .0) (l .i) (l .k)) (c .before .before .before .before .least-in .ensures) (block-small f) (c .if2 .left) ∙ l .inv .0,
-    omega (arith, c .before .before .before .before .least-in .kept .1 .0, c .before .before .before .before .before .before .before .before .before .fill .kept .1 .0, l .inv .1))
+    omega (arith, c .before .before .before .before .least-in .kept .1 .1 .1 .0, c .before .before .before .before .before .before .before .before .before .fill .kept .1 .1 .1 .0, l .inv .1))
 
 pub least-spec : {M : Type 1} → statement M
 least-spec =
@@ -56,10 +56,10 @@ least-spec =
     μ-loop
     (λ c. (refl, refl))
     fill-requires
-    (λ c. omega (arith, c .before .before .before .fill .kept .1 .0, c .before .before .before .before .before .loop .inv .1))
+    (λ c. omega (arith, c .before .before .before .fill .kept .1 .1 .1 .0, c .before .before .before .before .before .loop .inv .1))
     returns
     least-in-requires
-    (λ c. omega (arith, c .before .before .before .before .least-in .kept .1 .0, c .before .before .before .before .before .before .before .before .before .fill .kept .1 .0, c .before .before .before .before .before .before .before .before .before .before .before .loop .inv .1))
+    (λ c. omega (arith, c .before .before .before .before .least-in .kept .1 .1 .1 .0, c .before .before .before .before .before .before .before .before .before .fill .kept .1 .1 .1 .0, c .before .before .before .before .before .before .before .before .before .before .before .loop .inv .1))
     returns-2
     loop-less
     loop-again)
