@@ -22,6 +22,9 @@ use Rattle.page.specs.declared.RowList.{RowList}
 use Rattle.page.specs.declared.NextRow.the-variants.{Refused, At, NoMore}
 use Rattle.catalog.specs.declared.TableRow.{TableRow}
 use Rattle.catalog.specs.declared.Written.{Written}
+use Rattle.intake.specs.declared.Order.{Order}
+use Rattle.intake.specs.declared.FoundOrder.{FoundOrder}
+use Rattle.intake.specs.declared.RepeatedOrders.{RepeatedOrders}
 use Rattle.rules.specs.Lent.{Lent}
 
 -- lq_version
@@ -115,6 +118,20 @@ abbrev pub writtenNumbers : Written → List ℕ
 writtenNumbers w = w .verdict .number ∷ w .verdict .place ∷ w .length ∷ []
 
 -- lq_table_find: as lq_next_visible
+
+-- ---- orders
+
+-- an order: page, slot, part number, quantity
+abbrev pub orderNumbers : Order → List ℕ
+orderNumbers o = o .page .0 ∷ o .slot ∷ o .part ∷ o .quantity ∷ []
+
+-- lq_find_order: number, place, found, the order, short payloads
+abbrev pub foundNumbers : FoundOrder → List ℕ
+foundNumbers f = f .verdict .number ∷ f .verdict .place ∷ one (f .found) ∷ orderNumbers (f .order) ++ (f .short ∷ [])
+
+-- lq_repeated_orders: number, place, found, the earlier order, the later
+abbrev pub repeatedNumbers : RepeatedOrders → List ℕ
+repeatedNumbers f = f .verdict .number ∷ f .verdict .place ∷ one (f .found) ∷ orderNumbers (f .first) ++ orderNumbers (f .second)
 
 -- ---- recovery
 

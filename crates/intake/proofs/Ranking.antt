@@ -66,5 +66,5 @@ module _ {s l : List ℕ} (g : Places s l) (o : Sorted (rankAt s 2) l) where
     firstly-none h n = record {
       real = λ z. absurd (omega arith);
       least = λ x p m. let a = at-has x l p in
-      absurd (n (omega (arith, w .highs r (omega arith) h, weak r (a .index) (behind x (a .index) (a .below) (a .is) m) (a .below), ap (markAt s) (a .is), m)));
+          absurd (n (omega (arith, w .highs r (omega arith) h, weak r (a .index) (behind x (a .index) (a .below) (a .is) m) (a .below), ap (markAt s) (a .is), m)));
     }

@@ -44,9 +44,10 @@ loop-again : tie.Need-loop-again Inv-loop μ-loop
 loop-again c =
     let s = c .before .before .before .before .before .before .before .before .before .before .before .before .before .before in
     let l = c .before .before .before .before .before .before .before .before .before .before .before .loop in
-    let f = c .before .before .before .before .before .before .before .before .before .fill .ensures in
-    (block-none _ _ _ _ _ (f .goes) (places-ascend (s .args .pages .now) (s .pre .1 .0) (s .pre .0) (l .i) (l .k)) (c .before .before .before .before .least-in .ensures) (block-small f) (c .if2 .left) ∙ l .inv .0,
-    omega (arith, c .before .before .before .before .least-in .kept .1 .1 .1 .0, c .before .before .before .before .before .before .before .before .before .fill .kept .1 .1 .1 .0, l .inv .1))
+    let f = c .before .before .before .before .before .before .before .before .before .fill .ensures in (
+      block-none _ _ _ _ _ (f .goes) (places-ascend (s .args .pages .now) (s .pre .1 .0) (s .pre .0) (l .i) (l .k)) (c .before .before .before .before .least-in .ensures) (block-small f) (c .if2 .left) ∙ l .inv .0,
+      omega (arith, c .before .before .before .before .least-in .kept .1 .1 .1 .0, c .before .before .before .before .before .before .before .before .before .fill .kept .1 .1 .1 .0, l .inv .1),
+    )
 
 pub least-spec : {M : Type 1} → statement M
 least-spec =

@@ -51,9 +51,10 @@ loop-again : tie.Need-loop-again Inv-loop μ-loop
 loop-again c =
     let n = c .before .before .before in
     let l = n .before .before .before .loop in
-    let a = n .before .before .before .before .before .before .args in
-    (walk-on _ _ (l .i) (l .k) _ (l .known) _ (met n) (c .before .met .ensures) ∙ l .inv .0,
-    rw (c .before .met .ensures) (omega (arith, l .inv .1, ap length (row-next _ _ _ _ _ (met n)), short-one (a .pages .now) (wide (a .low) (a .high)) (n .next .given .0 .0) (l .known))))
+    let a = n .before .before .before .before .before .before .args in (
+      walk-on _ _ (l .i) (l .k) _ (l .known) _ (met n) (c .before .met .ensures) ∙ l .inv .0,
+      rw (c .before .met .ensures) (omega (arith, l .inv .1, ap length (row-next _ _ _ _ _ (met n)), short-one (a .pages .now) (wide (a .low) (a .high)) (n .next .given .0 .0) (l .known))),
+    )
 
 pub find-spec : {M : Type 1} → statement M
 find-spec =
