@@ -1,4 +1,5 @@
-/* Lumbraquay's C interface: crash recovery of heap pages by their write-ahead log, and the table rows of their catalog.
+/* Lumbraquay's C interface: crash recovery of heap pages by their write-ahead log, the table rows of their catalog, and
+ * orders by their request marks.
  *
  * Every function is total: for any bytes, lengths and numbers it ends and gives the answer that is written here.
  * None allocates, does input or output, keeps a pointer or has state of its own, so calls on different buffers may run
@@ -6,7 +7,7 @@
  *
  * Buffers. A buffer is a pointer and its length: in bytes, or for table, rows and out in numbers. Where the length is 0
  * the pointer is not looked at and may be NULL. A buffer that is written (pages of lq_recover, table, rows, map,
- * area, out) overlaps no other.
+ * area, out) overlaps no other. A mark is a pointer to 16 bytes, never NULL.
  *
  * Answers. A function writes its answer to out, one number after another in the order of the names below, but no more
  * than out_len of them; what out has behind them stays. Later versions may add numbers at the end of an answer and
@@ -317,6 +318,50 @@ enum lq_table_write_answer {
 /* The first visible row, in the order of lq_list_visible, that lq_table_read reads and that has this table id; others
  * are passed over. Refuses as lq_verify does. The answer is that of lq_next_visible. */
 void lq_table_find(uint64_t magic, const uint8_t *pages, size_t len, uint32_t table, uint64_t *out, size_t out_len);
+
+/* An order is a visible row whose payload begins with a request mark of 16 bytes, a part number u32 and a quantity u32.
+ * A visible payload under 24 bytes is none.
+ *
+ * The first order, in the order of lq_list_visible, with the mark that stands in 16 bytes. Refuses as lq_verify does. */
+void lq_find_order(uint64_t magic, const uint8_t *pages, size_t len, const uint8_t mark[16], uint64_t *out,
+                   size_t out_len);
+
+/* None is all 0, but for the count of short payloads, which is over all pages wherever the order stands. */
+enum lq_find_order_answer {
+    LQ_FIND_ORDER_NUMBER = 0,
+    LQ_FIND_ORDER_PLACE = 1,
+    LQ_FIND_ORDER_FOUND = 2, /* 1 or 0 */
+    LQ_FIND_ORDER_PAGE = 3,
+    LQ_FIND_ORDER_SLOT = 4,
+    LQ_FIND_ORDER_PART = 5,
+    LQ_FIND_ORDER_QUANTITY = 6,
+    LQ_FIND_ORDER_SHORT = 7 /* visible payloads under 24 bytes */
+};
+#define LQ_FIND_ORDER_NUMBERS 8
+
+#define LQ_MARK_BYTES 16  /* the bytes of a request mark */
+#define LQ_ORDER_BYTES 24 /* of the shortest payload that is an order */
+
+/* Whether any mark stands on two orders, and the least such pair in the order of lq_list_visible, by the earlier order,
+ * then the later. Refuses as lq_verify does. It goes over the pages once, and then over the orders at most once for each
+ * 114,688 of them begun. */
+void lq_repeated_orders(uint64_t magic, const uint8_t *pages, size_t len, uint64_t *out, size_t out_len);
+
+/* None is all 0. */
+enum lq_repeated_orders_answer {
+    LQ_REPEATED_ORDERS_NUMBER = 0,
+    LQ_REPEATED_ORDERS_PLACE = 1,
+    LQ_REPEATED_ORDERS_FOUND = 2, /* 1 or 0 */
+    LQ_REPEATED_ORDERS_PAGE = 3,  /* of the earlier order, and so the next three */
+    LQ_REPEATED_ORDERS_SLOT = 4,
+    LQ_REPEATED_ORDERS_PART = 5,
+    LQ_REPEATED_ORDERS_QUANTITY = 6,
+    LQ_REPEATED_ORDERS_LATER_PAGE = 7, /* of the later one */
+    LQ_REPEATED_ORDERS_LATER_SLOT = 8,
+    LQ_REPEATED_ORDERS_LATER_PART = 9,
+    LQ_REPEATED_ORDERS_LATER_QUANTITY = 10
+};
+#define LQ_REPEATED_ORDERS_NUMBERS 11
 
 #ifdef __cplusplus
 }

@@ -9,3 +9,7 @@ pub mod Ranking
 pub mod Scanning
 pub mod Filling
 pub mod Pairing
+pub mod Marks
+pub mod Findings
+pub mod Repeats
+pub mod Recovered

@@ -4,7 +4,7 @@ use generate::{Case, Rng, DATA};
 use oracle::PAGE_BYTES;
 
 use crate::seen::Seen;
-use crate::{catalog, log, pages, recovery, rows};
+use crate::{catalog, intake, log, pages, recovery, rows};
 
 /// A case of more bytes, or of more pairs of slots that might share a byte, gets fewer calls.
 const LIGHT_BYTES: usize = 2_000_000;
@@ -30,6 +30,7 @@ pub fn check(case: &Case, seen: &mut Seen) {
     };
     log::compare(&mut subject, seen);
     catalog::compare(&mut subject, seen);
+    intake::compare(&mut subject, seen);
     if pairs(case) > BRIEF_PAIRS && case.seed % 4 != 0 {
         recovery::compare_once(&mut subject, seen);
         return;

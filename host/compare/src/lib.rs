@@ -3,6 +3,7 @@
 
 mod catalog;
 mod check;
+mod intake;
 mod lent;
 mod limits;
 mod log;

@@ -92,6 +92,35 @@ pub fn written(of: oracle::Written) -> library::Written {
     }
 }
 
+pub fn found_order(of: oracle::FoundOrder) -> library::FoundOrder {
+    library::FoundOrder {
+        number: of.number,
+        place: of.place,
+        found: of.found,
+        page: of.page,
+        slot: of.slot,
+        part: of.part,
+        quantity: of.quantity,
+        short: of.short,
+    }
+}
+
+pub fn repeated_orders(of: oracle::RepeatedOrders) -> library::RepeatedOrders {
+    library::RepeatedOrders {
+        number: of.number,
+        place: of.place,
+        found: of.found,
+        page: of.page,
+        slot: of.slot,
+        part: of.part,
+        quantity: of.quantity,
+        later_page: of.later_page,
+        later_slot: of.later_slot,
+        later_part: of.later_part,
+        later_quantity: of.later_quantity,
+    }
+}
+
 /// A step that found an entry, with the place it leads to.
 fn entry(next: u64, of: oracle::EntryFields) -> library::Step {
     library::Step {

@@ -132,4 +132,21 @@ extern "C" {
         out: *mut u64,
         out_len: usize,
     );
+
+    pub fn lq_find_order(
+        magic: u64,
+        pages: *const u8,
+        len: usize,
+        mark: *const u8,
+        out: *mut u64,
+        out_len: usize,
+    );
+
+    pub fn lq_repeated_orders(
+        magic: u64,
+        pages: *const u8,
+        len: usize,
+        out: *mut u64,
+        out_len: usize,
+    );
 }

@@ -51,6 +51,10 @@ pub const CLUSTERED: u64 = 1;
 /// An area of so many bytes has room for every table row.
 pub const TABLE_LIMIT_BYTES: usize = 533;
 
+/// The bytes of a request mark, and of the shortest payload that is an order.
+pub const MARK_BYTES: usize = 16;
+pub const ORDER_BYTES: usize = 24;
+
 /// Declares a struct of numbers that is read off a C array in the order of its fields.
 macro_rules! numbers {
     ($(#[$doc:meta])* $name:ident: $count:literal { $($field:ident),+ }) => {
@@ -131,6 +135,19 @@ numbers! {
 }
 
 numbers! {
+    /// The first visible order with a mark, or none (0 but for `short`); and how many visible payloads are too short for
+    /// an order.
+    FoundOrder: 8 { number, place, found, page, slot, part, quantity, short }
+}
+
+numbers! {
+    /// The least pair of visible orders with the same mark, or none (all 0).
+    RepeatedOrders: 11 {
+        number, place, found, page, slot, part, quantity, later_page, later_slot, later_part, later_quantity
+    }
+}
+
+numbers! {
     /// What a step over the log finds. Where that is no entry, all after `next` are 0, and `next` is the place it
     /// started from.
     Step: 11 {
@@ -149,7 +166,7 @@ macro_rules! verdicts {
     };
 }
 
-verdicts! { Answer Row Visible Listing FreeMap Table Written }
+verdicts! { Answer Row Visible Listing FreeMap Table Written FoundOrder RepeatedOrders }
 
 impl Row {
     /// The payload as a part of what was lent.
@@ -380,5 +397,27 @@ pub fn table_write(
 pub fn table_find(magic: u64, pages: &[u8], table: u32) -> Visible {
     filled(|out, out_len| unsafe {
         c::lq_table_find(magic, pages.as_ptr(), pages.len(), table, out, out_len)
+    })
+}
+
+/// The first visible order with this mark, or none. Refuses as `verify` does.
+pub fn find_order(magic: u64, pages: &[u8], mark: &[u8; MARK_BYTES]) -> FoundOrder {
+    filled(|out, out_len| unsafe {
+        c::lq_find_order(
+            magic,
+            pages.as_ptr(),
+            pages.len(),
+            mark.as_ptr(),
+            out,
+            out_len,
+        )
+    })
+}
+
+/// The least pair of visible orders with the same mark, by the earlier row, then the later, or none. Refuses as `verify`
+/// does.
+pub fn repeated_orders(magic: u64, pages: &[u8]) -> RepeatedOrders {
+    filled(|out, out_len| unsafe {
+        c::lq_repeated_orders(magic, pages.as_ptr(), pages.len(), out, out_len)
     })
 }

@@ -5,6 +5,7 @@ mod bytes;
 mod catalog;
 mod crc;
 mod examine;
+mod intake;
 mod listing;
 mod log;
 mod log_rules;
@@ -14,6 +15,7 @@ mod row;
 
 pub use catalog::{table_find, table_read, table_read_older, table_write, Table, Written};
 pub use crc::crc32c;
+pub use intake::{find_order, repeated_orders, FoundOrder, RepeatedOrders};
 pub use listing::{
     free_map, list_cancelled, list_visible, next_visible, verify, verify_from, FreeMap, Listing,
     Verdict, Visible,

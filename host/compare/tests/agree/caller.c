@@ -36,7 +36,7 @@ static void look(const char *function, size_t numbers, size_t out_len) {
     }
 
 static uint8_t pages[1 << 20], kept[sizeof pages], log_bytes[1 << 16], map[64];
-static uint8_t area[LQ_TABLE_LIMIT_BYTES];
+static uint8_t area[LQ_TABLE_LIMIT_BYTES], mark[LQ_MARK_BYTES];
 static uint64_t table[64], rows[64];
 
 static size_t read_all(const char *name, uint8_t *into, size_t room) {
@@ -77,6 +77,11 @@ int main(int count, char **words) {
     must(whole[LQ_TABLE_WRITE_NUMBER] == LQ_TABLE_ROW_NO_ROOM, "lq_table_write", "no area is too short", MOST);
     CALL(lq_table_find, LQ_NEXT_VISIBLE_NUMBERS, 1, NULL, 0, 14)
     must(whole[LQ_NEXT_VISIBLE_FOUND] == 0, "lq_table_find", "no pages have no row", MOST);
+
+    CALL(lq_find_order, LQ_FIND_ORDER_NUMBERS, 1, NULL, 0, mark)
+    must(whole[LQ_FIND_ORDER_FOUND] == 0, "lq_find_order", "no pages have no order", MOST);
+    CALL(lq_repeated_orders, LQ_REPEATED_ORDERS_NUMBERS, 1, NULL, 0)
+    must(whole[LQ_REPEATED_ORDERS_FOUND] == 0, "lq_repeated_orders", "no pages have no pair", MOST);
 
     size_t pages_len = read_all(words[1], kept, sizeof kept), log_len = read_all(words[2], log_bytes, sizeof log_bytes);
     uint64_t magic = 0;
@@ -133,6 +138,17 @@ int main(int count, char **words) {
     must(whole[LQ_TABLE_READ_NUMBER] == LQ_TABLE_ROW_NEWER, "lq_table_read_older", "the newest form", MOST);
     CALL(lq_table_find, LQ_NEXT_VISIBLE_NUMBERS, magic, kept, pages_len, 14)
     must(whole[LQ_NEXT_VISIBLE_FOUND] == 0, "lq_table_find", "orders are no tables", MOST);
+
+    memcpy(mark, "order 1001: 6 ra", sizeof mark);
+    CALL(lq_find_order, LQ_FIND_ORDER_NUMBERS, magic, kept, pages_len, mark)
+    must(whole[LQ_FIND_ORDER_FOUND] == 1 && whole[LQ_FIND_ORDER_PAGE] == 1 && whole[LQ_FIND_ORDER_SLOT] == 0,
+         "lq_find_order", "the row that begins so", MOST);
+    mark[15]++;
+    CALL(lq_find_order, LQ_FIND_ORDER_NUMBERS, magic, kept, pages_len, mark)
+    must(whole[LQ_FIND_ORDER_FOUND] == 0, "lq_find_order", "no row begins so", MOST);
+    CALL(lq_repeated_orders, LQ_REPEATED_ORDERS_NUMBERS, magic, kept, pages_len)
+    must(whole[LQ_REPEATED_ORDERS_NUMBER] == LQ_DONE && whole[LQ_REPEATED_ORDERS_FOUND] == 0, "lq_repeated_orders",
+         "all rows begin in their own way", MOST);
 
     for (uint64_t number = 0; number < 64; number++)
         printf("%d %s: %s\n", (int)number, lq_refusal_name(number), lq_refusal_meaning(number));

@@ -5,7 +5,8 @@ use std::collections::BTreeMap;
 
 use library::refusal::{DONE, REFUSALS};
 use library::{
-    Answer, FreeMap, Listed, Listing, Record, Row, Step, Table, Verdict, Visible, Written,
+    Answer, FoundOrder, FreeMap, Listed, Listing, Record, RepeatedOrders, Row, Step, Table,
+    Verdict, Visible, Written,
 };
 
 const HEADER: &str = include_str!("../../../../include/lumbraquay.h");
@@ -63,6 +64,8 @@ fn names_and_numbers_are_the_same() {
         ("HEAP", library::HEAP),
         ("CLUSTERED", library::CLUSTERED),
         ("TABLE_LIMIT_BYTES", library::TABLE_LIMIT_BYTES as u64),
+        ("MARK_BYTES", library::MARK_BYTES as u64),
+        ("ORDER_BYTES", library::ORDER_BYTES as u64),
         ("DONE", DONE),
     ]
     .map(|(name, number)| (name.to_string(), number))
@@ -85,6 +88,8 @@ fn names_and_numbers_are_the_same() {
         ("FREE_MAP", &FreeMap::NAMES),
         ("TABLE_READ", &Table::NAMES),
         ("TABLE_WRITE", &Written::NAMES),
+        ("FIND_ORDER", &FoundOrder::NAMES),
+        ("REPEATED_ORDERS", &RepeatedOrders::NAMES),
     ] {
         expected.extend(indices(answer, names));
     }

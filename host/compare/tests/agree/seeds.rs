@@ -14,7 +14,7 @@ use crate::{assert_no_differences, tell};
 const SEEDS: Range<u64> = 0..20_000;
 
 /// The calls that are lent pages.
-const OVER_PAGES: [&str; 9] = [
+const OVER_PAGES: [&str; 11] = [
     "recover",
     "read_row",
     "verify",
@@ -24,6 +24,8 @@ const OVER_PAGES: [&str; 9] = [
     "list_cancelled",
     "free_map",
     "table_find",
+    "find_order",
+    "repeated_orders",
 ];
 
 /// The other calls that refuse by the papers' numbers.
@@ -192,6 +194,43 @@ fn catalog_rows_reach_every_bound() {
             ("cancelled row of the table passed over", 500),
             ("row of another table passed over", 5_000),
             ("unreadable row of the table passed over", 500),
+        ],
+    );
+}
+
+/// Payloads at every bound, marks on cancelled and on several rows, and short payloads wherever the order stands.
+#[test]
+fn orders_reach_every_bound() {
+    let seen = seen();
+    assert_no_differences(seen);
+    for entry in ["find_order", "repeated_orders"] {
+        for number in [0, 1, 18] {
+            let times = seen.times(entry, number);
+            assert!(times > 500, "{entry} gave {number} {times} times");
+        }
+    }
+    assert_often(
+        seen,
+        &[
+            ("order found", 2_000),
+            ("order not found", 2_000),
+            ("order of 24 bytes found", 1_000),
+            ("longer order found", 1_000),
+            ("payload of 0 bytes counted", 500),
+            ("payload of 15 bytes counted", 500),
+            ("payload of 16 bytes, the mark alone, counted", 100),
+            ("payload of 23 bytes under the mark counted", 100),
+            ("short payload counted", 2_000),
+            ("short payload behind the order counted", 1_000),
+            ("cancelled row under the mark passed over", 500),
+            ("order of another mark passed over", 5_000),
+            ("later order under the mark", 500),
+            ("no mark repeated", 2_000),
+            ("one mark repeated", 1_000),
+            ("several marks repeated", 1_000),
+            ("mark on three orders", 500),
+            ("mark on a cancelled and a visible row", 1_000),
+            ("pair on two pages", 500),
         ],
     );
 }

@@ -44,6 +44,8 @@ fn call_everything() {
     );
     assert_eq!(library::free_map(MAGIC, &pages, &mut [0; 38]).free, 0);
     assert_eq!(library::table_find(MAGIC, &pages, 14).found, 0);
+    assert_eq!(library::find_order(MAGIC, &pages, &[7; 16]).number, 0);
+    assert_eq!(library::repeated_orders(MAGIC, &pages).number, 0);
     let mut area = [0; library::TABLE_LIMIT_BYTES];
     let names = [7; 255];
     let written = library::table_write(14, 1, &names, &names, 0, 1, &mut area);
