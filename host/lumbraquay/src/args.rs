@@ -253,6 +253,11 @@ impl Parsed {
         Path::new(&self.given[index])
     }
 
+    /// The word given at an index of what the command takes.
+    pub fn word(&self, index: usize) -> String {
+        self.given[index].to_string_lossy().into_owned()
+    }
+
     /// The number given at an index of what the command takes.
     pub fn number(&self, index: usize, most: u64) -> Result<u64, Failure> {
         self.parse(self.command.takes[index].0, &self.given[index], most)

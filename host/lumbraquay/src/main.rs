@@ -13,6 +13,7 @@ mod found;
 mod fresh;
 mod held;
 mod input;
+mod intake;
 mod json;
 mod listing;
 mod memory;
@@ -190,5 +191,5 @@ fn overview() -> String {
         text += &format!("  {:<9} {}\n", command.name, command.about);
     }
     text + "\n`lumbraquay COMMAND --help` tells more. Exit status: 0 done, 3 refused (the answer says why), 2 wrong use \
-            or trouble\nwith a file, 4 done, but the report could not be written. 2 and 3 leave every file as it was.\n"
+            or trouble\nwith a file, 4 done, but the report could not be written. 2 and 3 leave every file as it was. `order` ends with 1 where\nno order has the mark.\n"
 }

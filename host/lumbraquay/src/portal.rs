@@ -1,8 +1,10 @@
-//! A small outage: the pages and the log of a portal for crane parts as a power failure left them, and what became of each
-//! order. The same bytes at every call.
+//! A small outage: the pages and the log of a portal for crane parts as a power failure left them, what became of each
+//! order, and presses of the order button that were made again. The same bytes at every call.
 
 use generate::{live_tuple, log_header, plain_page, DataPage, Entry, Slots};
 use generate::{BEGIN, CHECKPOINT, COMMIT, FREE, ROLLBACK};
+
+use crate::intake::Mark;
 
 const MAGIC: u64 = u64::from_le_bytes(*b"CRANES01");
 
@@ -12,8 +14,9 @@ const ORDERS: u32 = 14;
 /// The LSN up to which pages were flushed before the log's first entry.
 const FLUSHED: u64 = 100;
 
-/// What the power failure left of the last entry of the log.
+/// What the power failure left of the last entry of the log, an Insert, and of a Commit.
 const TORN_BYTES: usize = 61;
+const TORN_COMMIT_BYTES: usize = 19;
 
 const META: u8 = 0;
 
@@ -98,13 +101,70 @@ pub fn outage() -> Outage {
     Outage {
         magic: MAGIC,
         pages,
-        log: torn_log(&entries),
+        log: log_torn_after(&entries, TORN_BYTES),
         orders: orders(),
     }
 }
 
-/// The log with the end of its last entry missing.
-fn torn_log(entries: &[Entry]) -> Vec<u8> {
+/// A press of the order button whose answer the power failure cut off, so that the customer pressed again.
+pub struct Press {
+    pub mark: Mark,
+    pub story: &'static str,
+    /// Part number and quantity of the order that the second press must find.
+    pub expected: Option<(u64, u64)>,
+}
+
+/// Pages and log of the orders that presses placed.
+pub struct Presses {
+    pub magic: u64,
+    pub pages: Vec<u8>,
+    pub log: Vec<u8>,
+    pub presses: [Press; 2],
+}
+
+/// An order as the portal writes it: request mark, part number, quantity.
+fn order_row(transaction: u64, mark: Mark, part: u32, quantity: u32) -> Vec<u8> {
+    let numbers = [part.to_le_bytes(), quantity.to_le_bytes()].concat();
+    live_tuple(transaction, &[&mark[..], &numbers].concat())
+}
+
+/// One page, last flushed before both presses.
+pub fn presses() -> Presses {
+    let [earlier, lasting, lost] = [
+        *b"press by Quay 1.",
+        *b"press by Quay 4.",
+        *b"press by Quay 6.",
+    ];
+    let entries = [
+        Entry::bare(21, BEGIN),
+        Entry::insert(21, 0, 1, &order_row(21, lasting, 3310, 6)),
+        Entry::bare(21, COMMIT),
+        Entry::bare(22, BEGIN),
+        Entry::insert(22, 0, 2, &order_row(22, lost, 3310, 1)),
+        Entry::bare(22, COMMIT),
+    ];
+    Presses {
+        magic: MAGIC,
+        pages: data_page(0, FLUSHED, &[&order_row(20, earlier, 7012, 2)]),
+        log: log_torn_after(&entries, TORN_COMMIT_BYTES),
+        presses: [
+            Press {
+                mark: lasting,
+                story: "transaction 21 placed its order and committed, the page was not flushed",
+                expected: Some((3310, 6)),
+            },
+            Press {
+                mark: lost,
+                story:
+                    "transaction 22 placed its order, the power failed while its Commit was written",
+                expected: None,
+            },
+        ],
+    }
+}
+
+/// The log with so many bytes left of its last entry.
+fn log_torn_after(entries: &[Entry], left: usize) -> Vec<u8> {
     let mut log = log_header(&[0; 26]);
     let mut last = log.len();
     for (lsn, entry) in (FLUSHED + 1..).zip(entries) {
@@ -117,7 +177,7 @@ fn torn_log(entries: &[Entry]) -> Vec<u8> {
         };
         log.extend(entry.encode());
     }
-    log.truncate(last + TORN_BYTES);
+    log.truncate(last + left);
     log
 }
 

@@ -44,8 +44,17 @@ fn call_everything() {
     );
     assert_eq!(library::free_map(MAGIC, &pages, &mut [0; 38]).free, 0);
     assert_eq!(library::table_find(MAGIC, &pages, 14).found, 0);
-    assert_eq!(library::find_order(MAGIC, &pages, &[7; 16]).number, 0);
-    assert_eq!(library::repeated_orders(MAGIC, &pages).number, 0);
+    // Equal marks are halved most often.
+    let orders: Vec<u8> = (0..300)
+        .flat_map(|id| {
+            let slots: Slots = (0..80)
+                .map(|slot| (slot, live_tuple(1, &[7; 24])))
+                .collect();
+            DataPage::plain(MAGIC, id, 0, slots).packed()
+        })
+        .collect();
+    assert_eq!(library::find_order(MAGIC, &orders, &[7; 16]).found, 1);
+    assert_eq!(library::repeated_orders(MAGIC, &orders).later_slot, 1);
     let mut area = [0; library::TABLE_LIMIT_BYTES];
     let names = [7; 255];
     let written = library::table_write(14, 1, &names, &names, 0, 1, &mut area);

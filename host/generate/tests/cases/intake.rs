@@ -27,9 +27,9 @@ fn marks_are_few_and_differ_in_any_byte() {
     let marks: Vec<_> = (0..2_000).map(|_| mark(&mut rng)).collect();
     for byte in 0..16 {
         let differ_there_alone = marks.iter().any(|one| {
-            marks.iter().any(|other| {
-                (0..16).all(|at| (one[at] == other[at]) == (at != byte))
-            })
+            marks
+                .iter()
+                .any(|other| (0..16).all(|at| (one[at] == other[at]) == (at != byte)))
         });
         assert!(differ_there_alone, "byte {byte}");
     }

@@ -1,11 +1,11 @@
-//! `demo`: makes a small outage, recovers it and says what became of each order.
+//! `demo`: makes a small outage, recovers it and says what became of each order, and what a second press finds.
 
 use std::ffi::OsString;
 use std::fs;
 use std::io::ErrorKind;
 use std::path::{Path, PathBuf};
 
-use library::{LOG_HEAD_BYTES, PAGE_BYTES, PAGE_LIMIT};
+use library::{FoundOrder, LOG_HEAD_BYTES, PAGE_BYTES, PAGE_LIMIT, RECORD_NUMBERS};
 
 use super::recover;
 use crate::args::{Choice, Command, Parsed, JSON};
@@ -14,7 +14,8 @@ use crate::files;
 use crate::input::head_fields;
 use crate::json::Json;
 use crate::output::Output;
-use crate::portal::{outage, Found, Order, Outage};
+use crate::portal::{outage, presses, Found, Order, Outage, Press};
+use crate::show;
 
 pub const COMMAND: Command = Command {
     name: "demo",
@@ -39,6 +40,20 @@ struct Told {
     after: Found,
 }
 
+/// What a second press finds before and after recovery.
+struct Pressed {
+    press: Press,
+    before: FoundOrder,
+    after: FoundOrder,
+}
+
+impl Pressed {
+    fn is_right(&self) -> bool {
+        let found = (self.after.found == 1).then_some((self.after.part, self.after.quantity));
+        found == self.press.expected
+    }
+}
+
 fn run(parsed: &Parsed, output: &mut Output) -> Result<(), Failure> {
     let directory = match parsed.chosen_path("--dir") {
         Some(given) => given_directory(given)?,
@@ -58,11 +73,16 @@ fn run(parsed: &Parsed, output: &mut Output) -> Result<(), Failure> {
     let report = recover_files(&pages, &log, output)?;
     let after = files::read(&recovered, PAGE_LIMIT * PAGE_BYTES)?;
     let told = tell_orders(outage, &after.bytes);
-    let wrong: Vec<String> = told
+    let pressed = press_again();
+    let wrong_orders = told
         .iter()
         .filter(|told| told.after != told.order.expected)
-        .map(|told| told.order.number.to_string())
-        .collect();
+        .map(|told| told.order.number.to_string());
+    let wrong_presses = pressed
+        .iter()
+        .filter(|pressed| !pressed.is_right())
+        .map(|pressed| show::hex(&pressed.press.mark));
+    let wrong: Vec<String> = wrong_orders.chain(wrong_presses).collect();
     if parsed.flag("--json") {
         let result = if wrong.is_empty() { "done" } else { "differs" };
         let mut fields = head_fields(parsed, result, report.mended.answer.verdict());
@@ -72,14 +92,19 @@ fn run(parsed: &Parsed, output: &mut Output) -> Result<(), Failure> {
             "orders",
             Json::List(told.iter().map(order_fields).collect()),
         ));
+        fields.push((
+            "second_presses",
+            Json::List(pressed.iter().map(press_fields).collect()),
+        ));
         output.line(Json::Object(fields))?;
     } else {
         print(output, &directory, &report, &told)?;
+        print_presses(output, &pressed)?;
     }
     match wrong.is_empty() {
         true => Ok(()),
         false => Err(Failure::Differs(format!(
-            "not as they should be: orders {}",
+            "not as they should be: {}",
             wrong.join(", ")
         ))),
     }
@@ -154,6 +179,93 @@ fn tell_orders(outage: Outage, after: &[u8]) -> Vec<Told> {
             order,
         })
         .collect()
+}
+
+/// Recovers the pages of the presses and looks for their marks.
+fn press_again() -> Vec<Pressed> {
+    let own = presses();
+    let mut after = own.pages.clone();
+    let mut table = [0; 2 * RECORD_NUMBERS];
+    library::recover(own.magic, 0, &mut after, &own.log, &mut table);
+    let look = |press| {
+        let Press { mark, .. } = press;
+        Pressed {
+            before: library::find_order(own.magic, &own.pages, &mark),
+            after: library::find_order(own.magic, &after, &mark),
+            press,
+        }
+    };
+    own.presses.into_iter().map(look).collect()
+}
+
+fn press_words(found: &FoundOrder) -> String {
+    match found.found {
+        1 => format!(
+            "page {} slot {}: part {}, quantity {}",
+            found.page, found.slot, found.part, found.quantity
+        ),
+        _ => "no order has this mark".to_string(),
+    }
+}
+
+fn print_presses(output: &mut Output, pressed: &[Pressed]) -> Result<(), Failure> {
+    output.line(
+        "\nTwo customers had no answer and pressed again, each under the mark of the first press:",
+    )?;
+    for Pressed {
+        press,
+        before,
+        after,
+    } in pressed
+    {
+        let so = match after.found {
+            1 => "the second press finds the first order",
+            _ => "the second press places the order",
+        };
+        output.line(format_args!(
+            "  {}  {}",
+            show::hex(&press.mark),
+            press.story
+        ))?;
+        output.line(format_args!("        on disk    {}", press_words(before)))?;
+        output.line(format_args!(
+            "        recovered  {}; {so}",
+            press_words(after)
+        ))?;
+    }
+    let right = pressed.iter().filter(|pressed| pressed.is_right());
+    output.line(format_args!(
+        "{} of {} presses find what they should",
+        right.count(),
+        pressed.len()
+    ))
+}
+
+fn press_fields(pressed: &Pressed) -> Json {
+    let Pressed {
+        press,
+        before,
+        after,
+    } = pressed;
+    Json::Object(vec![
+        ("mark", Json::Text(show::hex(&press.mark))),
+        ("story", press.story.into()),
+        ("on_disk", press_found(before)),
+        ("recovered", press_found(after)),
+        ("as_it_should_be", pressed.is_right().into()),
+    ])
+}
+
+fn press_found(found: &FoundOrder) -> Json {
+    match found.found {
+        1 => Json::Object(vec![
+            ("page", found.page.into()),
+            ("slot", found.slot.into()),
+            ("part", found.part.into()),
+            ("quantity", found.quantity.into()),
+        ]),
+        _ => Json::Null,
+    }
 }
 
 fn words(found: &Found) -> String {

@@ -3,8 +3,10 @@
 mod demo;
 mod freemap;
 mod log;
+mod order;
 mod pages;
 mod recover;
+mod repeats;
 mod replay;
 mod report;
 mod row;
@@ -32,6 +34,8 @@ pub const ALL: &[Command] = &[
     row::COMMAND,
     tables::COMMAND,
     table::COMMAND,
+    order::COMMAND,
+    repeats::COMMAND,
     freemap::COMMAND,
     report::COMMAND,
     replay::COMMAND,
