@@ -1,0 +1,125 @@
+//! Orders on 4,096 full pages: the search for a mark beside one verification, and the search for repeated marks on distinct
+//! ones, on equal ones, on ones that share their first 15 bytes, and on ones that are hard to tell apart.
+use bench::best;
+use generate::{live_tuple, DataPage, Slots};
+use std::hint::black_box;
+
+const MAGIC: u64 = 0x4C75_6D62_7261_7175;
+const PAGES: u64 = 4_096;
+
+/// The orders of a full page: 48 bytes and a slot of 4 each.
+const ORDERS: u64 = 16_320 / 52;
+
+/// What the search for a mark should stay under, in terms of a verification, and the search for repeated marks, in seconds: on
+/// distinct marks, and on any.
+const FIND_BOUND: f64 = 1.5;
+const DISTINCT_BOUND: f64 = 5.0;
+const ANY_BOUND: f64 = 60.0;
+
+type Mark = [u8; 16];
+
+/// Full pages of orders, with the mark of each by its number.
+fn area(mark: impl Fn(u64) -> Mark) -> Vec<u8> {
+    let mut pages = Vec::new();
+    for id in 0..PAGES {
+        let slots: Slots = (0..ORDERS)
+            .map(|slot| {
+                let mut payload = mark(id * ORDERS + slot).to_vec();
+                payload.extend([slot as u8; 8]);
+                (slot as u16, live_tuple(1, &payload))
+            })
+            .collect();
+        pages.extend(DataPage::plain(MAGIC, id, 0, slots).packed());
+    }
+    pages
+}
+
+/// Two halves of a mark.
+fn halves(low: u64, high: u64) -> Mark {
+    let mut mark = [0; 16];
+    mark[..8].copy_from_slice(&low.to_le_bytes());
+    mark[8..].copy_from_slice(&high.to_le_bytes());
+    mark
+}
+
+/// A number that looks random and is its own for each.
+fn mixed(n: u64) -> u64 {
+    let n = (n ^ n >> 31).wrapping_mul(0x7FB5_D329_728E_A185);
+    (n ^ n >> 27).wrapping_mul(0x81DA_DEF4_BC2D_D44D) ^ n >> 33
+}
+
+fn distinct(n: u64) -> Mark {
+    halves(mixed(n), mixed(!n))
+}
+
+fn verdict(time: f64, bound: f64) -> &'static str {
+    match time <= bound {
+        true => "as it should be",
+        false => "TOO SLOW",
+    }
+}
+
+fn finding() {
+    let pages = area(distinct);
+    let v = best(5, || library::verify(MAGIC, black_box(&pages)).number);
+    let absent = [0xFF; 16];
+    let f = best(5, || {
+        library::find_order(MAGIC, black_box(&pages), &absent).found
+    });
+    assert_eq!(library::find_order(MAGIC, &pages, &absent).found, 0);
+    let last = library::find_order(MAGIC, &pages, &distinct(PAGES * ORDERS - 1));
+    assert_eq!(
+        (last.found, last.page, last.slot),
+        (1, PAGES - 1, ORDERS - 1)
+    );
+    println!(
+        "search for a mark among {} orders: {:.2} ms, one verification {:.2} ms: {:.2} times, at most {FIND_BOUND}: {}",
+        PAGES * ORDERS,
+        f * 1e3,
+        v * 1e3,
+        f / v,
+        verdict(f / v, FIND_BOUND)
+    );
+}
+
+fn repeated(name: &str, bound: f64, found: bool, mark: impl Fn(u64) -> Mark) {
+    let pages = area(mark);
+    let pair = library::repeated_orders(MAGIC, &pages);
+    assert_eq!((pair.number, pair.found), (0, u64::from(found)), "{name}");
+    let t = best(2, || {
+        library::repeated_orders(MAGIC, black_box(&pages)).found
+    });
+    println!(
+        "repeated marks among {} orders, {name}: {t:.3} s, at most {bound} s: {}",
+        PAGES * ORDERS,
+        verdict(t, bound)
+    );
+}
+
+fn main() {
+    finding();
+    let all = PAGES * ORDERS;
+    repeated("distinct marks", DISTINCT_BOUND, false, distinct);
+    repeated("equal marks everywhere", ANY_BOUND, true, |_| [7; 16]);
+    repeated(
+        "marks that share their first 15 bytes",
+        ANY_BOUND,
+        true,
+        |n| halves(7, n << 56 | 7),
+    );
+    repeated(
+        "rising numbers behind 8 equal bytes",
+        ANY_BOUND,
+        false,
+        |n| halves(7, n.swap_bytes()),
+    );
+    repeated(
+        "low numbers, the least bytes first",
+        ANY_BOUND,
+        false,
+        |n| halves(n, 0),
+    );
+    repeated("the last two orders alone", ANY_BOUND, true, |n| {
+        distinct(n.min(all - 2))
+    });
+}
