@@ -20,6 +20,9 @@ fn tells_what_became_of_each_order() {
         "recovered  \"order 1003: 8 rail buffers for Quay 2\", marked deleted",
         "on disk    \"order 1007: 3 trolley motors for Quay 3\"\n        recovered  no row",
         "9 of 9 orders are as they should be\n",
+        "recovered  page 0 slot 1: part 3310, quantity 6; the second press finds the first order\n",
+        "recovered  no order has this mark; the second press places the order\n",
+        "2 of 2 presses find what they should\n",
     ]);
     assert_eq!(sandbox.names(), FILES);
 }
@@ -36,6 +39,12 @@ fn as_json() {
     for order in orders {
         assert!(order.flag("as_it_should_be"), "{order:?}");
     }
+    let presses = done.list("second_presses");
+    assert_eq!(presses.len(), 2);
+    assert!(presses.iter().all(|press| press.flag("as_it_should_be")));
+    assert!(presses.iter().all(|press| press.is_null("on_disk")));
+    assert_eq!(presses[0].at("recovered").number("part"), 3310);
+    assert!(presses[1].is_null("recovered"));
     assert_eq!(orders[2].at("recovered").text("state"), "deleted");
     assert_eq!(orders[6].at("on_disk").text("state"), "live");
     assert_eq!(orders[6].at("recovered").text("state"), "none");

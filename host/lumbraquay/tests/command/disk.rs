@@ -103,6 +103,7 @@ fn standard_output_that_is_full_or_closed() {
         "row outage.pages outage.log 1 0",
         "tables outage.pages",
         "table outage.pages 14",
+        "repeats outage.pages",
         "freemap outage.pages",
         "log outage.log",
         "log outage.log --json",

@@ -53,7 +53,12 @@ fn fits(lines: &[String], shown: &[String]) -> bool {
 fn run(name: &str, document: &str) -> Vec<String> {
     let sandbox = Sandbox::new();
     std::fs::create_dir(sandbox.path.join("samples")).unwrap();
-    for file in ["outage.pages", "outage.log", "catalog.pages"] {
+    for file in [
+        "outage.pages",
+        "outage.log",
+        "catalog.pages",
+        "orders.pages",
+    ] {
         let bundled = std::fs::read(repository().join("samples").join(file)).unwrap();
         sandbox.write(&format!("samples/{file}"), &bundled);
     }
@@ -89,8 +94,8 @@ fn run(name: &str, document: &str) -> Vec<String> {
 fn the_transcript_is_what_is_printed() {
     let lines = run("the transcript", TRANSCRIPT);
     for command in [
-        "demo", "recover", "verify", "log", "pages", "rows", "row", "tables", "table", "freemap",
-        "report", "replay",
+        "demo", "recover", "verify", "log", "pages", "rows", "row", "tables", "table", "order",
+        "repeats", "freemap", "report", "replay",
     ] {
         let start = format!("lumbraquay {command} ");
         assert!(

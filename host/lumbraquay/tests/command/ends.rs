@@ -31,6 +31,8 @@ fn every_end_has_a_result() {
         "rows outage.pages",
         "tables outage.pages",
         "table outage.pages 14",
+        "repeats outage.pages",
+        "repeats outage.pages --all",
         "freemap outage.pages",
         "log outage.log",
         "log outage.log --stats",

@@ -6,11 +6,13 @@ use std::os::unix::fs::PermissionsExt;
 use crate::sandbox::Sandbox;
 
 /// Every use of a page file, which is called P, and of a log file, called L.
-const OF_PAGES: [&str; 10] = [
+const OF_PAGES: [&str; 12] = [
     "verify P",
     "rows P",
     "tables P",
     "table P 14",
+    "order P 00000000000000000000000000000000",
+    "repeats P",
     "freemap P",
     "row P outage.log 1 0",
     "recover P outage.log",

@@ -12,6 +12,7 @@ mod kills;
 mod listing;
 mod log;
 mod looking;
+mod orders;
 mod place;
 mod recover;
 mod refusals;

@@ -164,6 +164,8 @@ fn listings_refuse_too() {
             "rows pages",
             "tables pages",
             "table pages 14",
+            "order pages 00000000000000000000000000000000",
+            "repeats pages",
             "freemap pages",
         ] {
             let words = format!("{command} --magic {:#x}", case.magic);

@@ -2,9 +2,9 @@
 
 use crate::sandbox::Sandbox;
 
-const COMMANDS: [&str; 12] = [
-    "demo", "recover", "verify", "log", "pages", "rows", "row", "tables", "table", "freemap",
-    "report", "replay",
+const COMMANDS: [&str; 14] = [
+    "demo", "recover", "verify", "log", "pages", "rows", "row", "tables", "table", "order",
+    "repeats", "freemap", "report", "replay",
 ];
 
 #[test]
