@@ -50,9 +50,9 @@ first-1 k = ap (λ (p : List ℕ). slotAt p k) (page-at (page 0 (a ∷ []) ∷ p
 -- ---- the history
 
 -- a change finds its before-image if its own slot holds it
-finds : (s : State) (e : Entry) → s .slot (pageOf e) (slotOf e) ≡ beforeOf e → (i k : ℕ) → typeOf (pageAt i before) ≡ dataType → Finds (s .slot i k) (effectOn i k e)
+pub finds : (s : State) (e : Entry) → s .slot (pageOf e) (slotOf e) ≡ beforeOf e → (i k : ℕ) → Finds (s .slot i k) (effectOn i k e)
 unfolding effectOn isOn
-finds s e h i k d = go (isChange e) (eqb (pageOf e) i) (eqb (slotOf e) k) refl refl
+finds s e h i k = go (isChange e) (eqb (pageOf e) i) (eqb (slotOf e) k) refl refl
   where
     go : (x y z : Bool) → eqb (pageOf e) i ≡ y → eqb (slotOf e) k ≡ z
         → Finds (s .slot i k) (pick {A = List Change} (both (both x y) z) (record { by = e .txn; before = beforeOf e; after = afterOf e } ∷ []) [])
@@ -96,16 +96,16 @@ unfolding effectOn isOn isChanging beforeOf afterOf numberAt numberOf bytesOf
 honest = (
   λ i k d. tt,
   (
-    finds (at 1) (updates 2 7 0 0 a b) (first-0 0),
+    λ i k d. finds (at 1) (updates 2 7 0 0 a b) (first-0 0) i k,
     (
       λ i k d. tt,
       (
         λ i k d. tt,
         (
-          finds (at 4) (inserts 5 8 1 0 a) (first-1 0),
+          λ i k d. finds (at 4) (inserts 5 8 1 0 a) (first-1 0) i k,
           (
             λ i k d. tt,
-            (finds (at 6) (updates 7 9 0 0 b c) refl, (finds (at 7) (inserts 8 9 0 1 a) (first-0 1), (λ i k d. tt, tt))),
+            (λ i k d. finds (at 6) (updates 7 9 0 0 b c) refl i k, (λ i k d. finds (at 7) (inserts 8 9 0 1 a) (first-0 1) i k, (λ i k d. tt, tt))),
           ),
         ),
       ),

@@ -5,3 +5,4 @@ pub mod Rows
 pub mod Example
 pub mod ShutOut
 pub mod Tail
+pub mod OrderExample

@@ -106,8 +106,7 @@ fn order_in_words() {
 fn repeats_in_words() {
     let sandbox = with_orders();
     let quay_1 = hex(&QUAY_1);
-    let pair = sandbox.say("repeats orders.pages").done();
-    pair.says(&[
+    let pair = sandbox.say("repeats orders.pages").done().says(&[
         "orders.pages: 2 pages, magic 0x313053454e415243 (read off page 0)\n",
         &format!("mark {quay_1} stands on two orders, the first pair of all:\n"),
         "  page 1 slot 1: part 7012, quantity 4; xmin 6, payload of 24 bytes at offset ",

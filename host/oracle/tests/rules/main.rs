@@ -6,6 +6,7 @@ mod crc;
 mod entry_rules;
 mod log_reader;
 mod order_and_size;
+mod orders;
 mod page_rules;
 mod paper_cases;
 mod rows_and_maps;
