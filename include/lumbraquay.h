@@ -343,8 +343,8 @@ enum lq_find_order_answer {
 #define LQ_ORDER_BYTES 24 /* of the shortest payload that is an order */
 
 /* Whether any mark stands on two orders, and the least such pair in the order of lq_list_visible, by the earlier order,
- * then the later. Refuses as lq_verify does. It goes over the pages once, and then over the orders at most once for each
- * 114,688 of them begun. */
+ * then the later. Refuses as lq_verify does. It checks the pages once, and goes over the orders once and then at most
+ * once for each 114,688 of them begun: at most 14 passes in all. */
 void lq_repeated_orders(uint64_t magic, const uint8_t *pages, size_t len, uint64_t *out, size_t out_len);
 
 /* None is all 0. */
