@@ -1,29 +1,25 @@
 -- A row that stands in a page area: its payload's length and fields, and its place.
 -- Assumes nothing.
 use mathlib.Core.Path.{_≡_, refl, sym, ap, _∙_}
-use mathlib.Core.Bool.{Bool, true, false}
+use mathlib.Core.Bool.{true, false}
 use Prim.Native.Nat.{ℕ, _+_, _-_, _*_, _/_, _%_, _<_, _≤_}
 use native.Mathlib.Omega.{arith}
 use mathlib.Core.List.{List}
-use lib.Dec.{leb, eqb}
+use lib.Dec.{leb}
 use lib.ListN.{length, take, drop, length-drop}
 use lib.Seq.{length-take-le}
 use borrow.Author.Tests.{le-leb, lt-leb}
-use Rattle.endian.specs.Pick.{pick}
 use Rattle.endian.specs.Numbers.{numberAt, Bytes}
 use Rattle.endian.proofs.Places.{number-take, number-drop}
 use Rattle.page.specs.Rows.{rowPayload}
 use Rattle.page.specs.declared.Row.{Row}
 use Rattle.page.proofs.ListedRows.{Standing}
-use Rattle.intake.specs.Orders.{markOf, partOf, quantityOf, isOrder, bears, orderOf}
+use Rattle.intake.specs.Orders.{markOf, partOf, quantityOf, isOrder, orderOf}
 use Rattle.intake.specs.declared.Order.{Order}
 use Rattle.intake.specs.Places.{placeOf, tupleAt, lowAt, highAt, markAt, orderAt, Place}
 use Rattle.intake.proofs.Halves.{halves-at}
 
 module _ (s : List ℕ) (r : Row) (st : Standing s r) where
-  rest : ℕ
-  rest = r .offset + r .length - (r .offset + 24)
-
   payload-long : length (rowPayload s r) ≡ r .length - 24
   payload-long =
       let n : r .offset + r .length - (r .offset + 24) ≡ r .length - 24 = omega arith in
@@ -49,11 +45,6 @@ module _ (s : List ℕ) (r : Row) (st : Standing s r) where
   -- the order of its slot
   pub order-there : 48 ≤ r .length → (o : Order) → o ≡ record { page = r .page; slot = r .slot; part = numberAt 4 (r .offset + 40) s; quantity = numberAt 4 (r .offset + 44) s } → o ≡ orderOf s r
   order-there h o e = e ∙ rw (field 4 16 (r .offset + 40) (omega arith) (omega arith), field 4 20 (r .offset + 44) (omega arith) (omega arith))
-
-  -- whether it bears a mark
-  pub bears-there : 48 ≤ r .length → (mark : ℕ) (b : Bool) → b ≡ eqb (numberAt 16 (r .offset + 24) s) mark → b ≡ bears mark (rowPayload s r)
-  unfolding bears
-  bears-there h mark b e = e ∙ rw (order-row h, mark-there h)
 
   -- ---- its place
 

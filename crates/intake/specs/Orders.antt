@@ -50,9 +50,13 @@ unfoldable pub shortIn : List ℕ → List Row → ℕ
 shortIn s [] = 0
 shortIn s (r ∷ rs) = pick (isOrder (rowPayload s r)) (shortIn s rs) (suc (shortIn s rs))
 
+-- refused: nothing else
+abbrev pub refusedOrder : Verdict → FoundOrder
+refusedOrder v = record { verdict = v; found = false; order = noOrder; short = 0 }
+
 -- the order that was found or none, and how many payloads are short
 abbrev pub foundBy : List ℕ → ℕ → NextRow → FoundOrder
-foundBy s short (Refused v) = record { verdict = v; found = false; order = noOrder; short = 0 }
+foundBy s short (Refused v) = refusedOrder v
 foundBy s short (At r) = record { verdict = accepted; found = true; order = orderOf s r; short = short }
 foundBy s short NoMore = record { verdict = accepted; found = false; order = noOrder; short = short }
 
@@ -62,7 +66,7 @@ foundIn s mark rs = foundBy s (shortIn s rs) (firstWith (λ r. bears mark (rowPa
 
 -- among the visible ones, in the order of the listing; refused as the listing is
 unfoldable pub orderFound : ℕ → List ℕ → ℕ → FoundOrder
-orderFound magic s mark = pick (eqb (verdictOf magic s .number) 0) (foundIn s mark (visibleRows s)) (foundBy s 0 (Refused (verdictOf magic s)))
+orderFound magic s mark = pick (eqb (verdictOf magic s .number) 0) (foundIn s mark (visibleRows s)) (refusedOrder (verdictOf magic s))
 
 -- ---- the least pair of visible orders with the same mark
 

@@ -1,7 +1,8 @@
 // The intake check over recovered pages: the first visible order with a request mark, and the least pair of visible orders with the same one.
 ghost use mathlib.Core.Path.{_≡_};
-ghost use Rattle.intake.specs.Orders.{markOf, orderFound, ordersRepeated, noOrder, noneRepeated};
+ghost use Rattle.intake.specs.Orders.{markOf, orderFound, ordersRepeated, noOrder, refusedOrder, noneRepeated};
 use endian::PageNumber;
+use refusals::PAGE_AREA;
 use refusals::Verdict;
 
 mod orders;
@@ -50,22 +51,32 @@ fn no_order() -> Order
     }
 }
 
+// No order, with a verdict.
+fn refused(v: Verdict) -> FoundOrder
+    ensures { λ r. ⌜ r ≡ refusedOrder v ⌝ }
+{
+    FoundOrder {
+        verdict: v,
+        found: false,
+        order: no_order(),
+        short: 0,
+    }
+}
+
 // The first visible order with that mark, in the order of the listing; and how many visible payloads have under 24 bytes. Refuses as `page::verify` does.
 pub fn find(magic: u64, pages: &[u8], mark: &[u8; 16]) -> FoundOrder
     ensures { λ r. ⌜ r ≡ orderFound magic (now (pages .entry)) (markOf (now (mark .entry))) ⌝ }
 {
-    let v = page::verify(magic, pages);
-    if v.number != 0 {
-        return FoundOrder {
-            verdict: v,
-            found: false,
-            order: no_order(),
-            short: 0,
-        };
-    }
     let low = endian::u64_at(mark, 0);
     let high = endian::u64_at(mark, 8);
-    search::find(pages, low, high)
+    if page::inner::size_wrong(pages) {
+        return refused(Verdict {
+            number: PAGE_AREA,
+            place: 0,
+        });
+    }
+    let t = crc32c::inner::tables();
+    search::find(&t, magic, pages, low, high)
 }
 
 // No pair, with a verdict.
