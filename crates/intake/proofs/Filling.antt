@@ -1,16 +1,14 @@
 -- Filling a block: what was put and what is left are all; and what a filled block is good for.
 -- Assumes nothing.
 use mathlib.Core.Path.{_≡_, refl, sym, ap, _∙_, subst}
-use mathlib.Core.Bool.{true, false}
 use Prim.Native.Nat.{ℕ, zero, suc, _+_, _-_, _≤_, _<_}
 use native.Mathlib.Omega.{arith}
 use mathlib.Core.List.{List, [], _∷_, _++_, append-assoc}
-use lib.ListN.{length, take, set, getD, length-set, length-append}
+use lib.ListN.{length, take, set, length-set, length-append}
 use lib.Seq.{length-take-le, getD-set-same}
 use Rattle.intake.specs.Places.{lowAt, highAt, markAt, wide, Has, Place, Places, placesFrom}
 use Rattle.intake.specs.Blocks.{Filled, Firstly, nowhere, leastPair}
 use Rattle.intake.specs.declared.pairs.Block.{Block}
-use Rattle.intake.specs.declared.pairs.Pair.{Pair}
 use Rattle.intake.proofs.Counting.{take-next, places-none, places-more}
 
 -- what stands in front of a stored element is kept

@@ -5,12 +5,10 @@ use mathlib.Core.Bool.{Bool, true, false}
 use Prim.Native.Nat.{ℕ}
 use mathlib.Core.List.{List, [], _∷_}
 use borrow.Author.Tests.{eq-eqb}
-use Rattle.endian.specs.Pick.{pick}
 use Rattle.page.specs.Layout.{pageAt, slotAt, payloadOf}
 use Rattle.page.specs.Fault.{verdictOf}
 use Rattle.page.specs.Rows.{visible, row, visibleRows, atOrAfter, rowPayload, firstWith}
 use Rattle.page.specs.declared.Row.{Row}
-use Rattle.page.specs.declared.NextRow.{NextRow}
 use Rattle.page.specs.declared.NextRow.the-variants.{At, NoMore}
 use Rattle.page.proofs.Picks.{never}
 use Rattle.page.proofs.ListedRows.{InSlot}
@@ -41,9 +39,6 @@ abbrev orderIn : FoundOrder → Order
 orderIn g = g .order
 
 module _ (magic : ℕ) (s : List ℕ) (mark : ℕ) (ok : verdictOf magic s .number ≡ 0) where
-  bearing : Row → Bool
-  bearing r = bears mark (rowPayload s r)
-
   taken : orderFound magic s mark ≡ foundBy s (shortIn s (visibleRows s)) (firstWith (λ r. bears mark (rowPayload s r)) (visibleRows s))
   unfolding orderFound foundIn
   taken = rw (eq-eqb _ _ ok)

@@ -1,12 +1,11 @@
 -- A row that stands in a page area: its payload's length and fields, and its place.
 -- Assumes nothing.
-use mathlib.Core.Path.{_≡_, refl, sym, ap, _∙_}
+use mathlib.Core.Path.{_≡_, sym, ap, _∙_}
 use mathlib.Core.Bool.{true, false}
 use Prim.Native.Nat.{ℕ, _+_, _-_, _*_, _/_, _%_, _<_, _≤_}
 use native.Mathlib.Omega.{arith}
 use mathlib.Core.List.{List}
-use lib.Dec.{leb}
-use lib.ListN.{length, take, drop, length-drop}
+use lib.ListN.{length, drop, length-drop}
 use lib.Seq.{length-take-le}
 use borrow.Author.Tests.{le-leb, lt-leb}
 use Rattle.endian.specs.Numbers.{numberAt, Bytes}
@@ -14,7 +13,7 @@ use Rattle.endian.proofs.Places.{number-take, number-drop}
 use Rattle.page.specs.Rows.{rowPayload}
 use Rattle.page.specs.declared.Row.{Row}
 use Rattle.page.proofs.ListedRows.{Standing}
-use Rattle.intake.specs.Orders.{markOf, partOf, quantityOf, isOrder, orderOf}
+use Rattle.intake.specs.Orders.{markOf, isOrder, orderOf}
 use Rattle.intake.specs.declared.Order.{Order}
 use Rattle.intake.specs.Places.{placeOf, tupleAt, lowAt, highAt, markAt, orderAt, Place}
 use Rattle.intake.proofs.Halves.{halves-at}

@@ -2,7 +2,7 @@
 -- Assumes nothing.
 use mathlib.Core.Path.{_≡_, refl, sym, ap, _∙_}
 use mathlib.Core.Bool.{Bool, true, false}
-use Prim.Native.Nat.{ℕ, _+_, _*_, _≤_, _<_}
+use Prim.Native.Nat.{ℕ, _≤_, _<_}
 use native.Mathlib.Omega.{arith}
 use native.Mathlib.Decide.{decLe}
 use mathlib.Core.List.{List, [], _∷_}
@@ -18,20 +18,19 @@ use Rattle.page.specs.Rows.{rowPayload, visibleRows, firstWith, Listable}
 use Rattle.page.specs.declared.Row.{Row}
 use Rattle.page.specs.declared.NextRow.{NextRow}
 use Rattle.page.specs.declared.NextRow.the-variants.{Refused, At, NoMore}
-use Rattle.page.specs.Layout.{pagesIn}
 use Rattle.page.proofs.ListedRows.{Each}
 use Rattle.page.proofs.Picks.{never}
 use Rattle.page.proofs.Verdicts.{accepted-size}
-use Rattle.intake.specs.Orders.{markOf, isOrder, bears, orderOf, sameMark, noneRepeated, pairOr, repeatedIn, ordersRepeated}
+use Rattle.intake.specs.Orders.{markOf, isOrder, bears, sameMark, noneRepeated, pairOr, repeatedIn, ordersRepeated}
 use Rattle.intake.specs.declared.RepeatedOrders.{RepeatedOrders}
 use Rattle.intake.specs.declared.Order.{Order}
 use Rattle.intake.specs.Places.{placeOf, markAt, orderAt, placesOf, placesFrom, Has, Place, Places}
 use Rattle.intake.specs.Blocks.{nowhere, nextSame, leastPair}
 use Rattle.intake.specs.declared.pairs.Pair.{Pair}
-use Rattle.intake.proofs.OrderRows.{order-row, short-row, place-mark, place-order, place-good, offset-small}
+use Rattle.intake.proofs.OrderRows.{short-row, place-mark, place-order, place-good, offset-small}
 use Rattle.intake.proofs.Walking.{Sound, rows-sound, places-all}
 use Rattle.intake.proofs.Counting.{places-none}
-use Rattle.intake.proofs.Scanning.{Cons, head, rest, cons-cases, has-head, has-tail}
+use Rattle.intake.proofs.Scanning.{head, rest, cons-cases, has-head, has-tail}
 
 -- the answer of a pair of places
 abbrev pub answerOf : List ℕ → Pair → RepeatedOrders

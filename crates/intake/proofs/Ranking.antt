@@ -1,6 +1,6 @@
 -- Looking a mark up in a sorted block: the loop's invariant, and the first place of a mark.
 -- Assumes nothing.
-use mathlib.Core.Path.{_≡_, refl, sym, ap, _∙_, subst}
+use mathlib.Core.Path.{_≡_, refl, sym, ap, _∙_}
 use mathlib.Core.Bool.{Bool, true, false}
 use Prim.Native.Nat.{ℕ, _+_, _-_, _≤_, _<_}
 use native.Mathlib.Omega.{arith}
@@ -8,7 +8,7 @@ use mathlib.Core.List.{List}
 use lib.ListN.{length, getD}
 use lib.Dec.{eqb, leb}
 use borrow.Author.Tests.{eqb-true, eqb-false, leb-true, leb-false}
-use Rattle.intake.specs.Places.{markAt, Has, Places}
+use Rattle.intake.specs.Places.{markAt, Places}
 use Rattle.intake.specs.Blocks.{rankAt, Sorted, Around, Firstly, nowhere}
 use Rattle.intake.proofs.Counting.{has-at, at-has}
 use Rattle.intake.proofs.Sorting.{marks-rise, places-rise}

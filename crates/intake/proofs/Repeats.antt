@@ -1,6 +1,6 @@
 -- What the search for repeated marks gives: none exactly when no two rows of the listing are orders with the same mark; else the least pair, by the earlier row, then the later.
 -- Assumes nothing.
-use mathlib.Core.Path.{_≡_, refl, sym, ap, _∙_, subst}
+use mathlib.Core.Path.{_≡_, refl, sym, ap, _∙_}
 use mathlib.Core.Logic.{_⊎_, inl, inr}
 use mathlib.Core.Bool.{Bool, true, false}
 use Prim.Native.Nat.{ℕ, suc, _+_, _≤_, _<_}
@@ -8,15 +8,12 @@ use native.Mathlib.Omega.{arith}
 use mathlib.Core.List.{List, [], _∷_, _++_}
 use lib.ListN.{length}
 use borrow.Author.Tests.{eq-eqb}
-use Rattle.endian.specs.Pick.{pick}
 use Rattle.page.specs.Fault.{verdictOf}
 use Rattle.page.specs.Rows.{visibleRows, firstWith}
 use Rattle.page.specs.declared.Row.{Row}
-use Rattle.page.specs.declared.NextRow.{NextRow}
 use Rattle.page.specs.declared.NextRow.the-variants.{At, NoMore}
 use Rattle.page.proofs.Picks.{never}
-use Rattle.page.proofs.RowLists.{rowOr}
-use Rattle.intake.specs.Orders.{orderOf, sameMark, pairOr, repeatedIn, ordersRepeated}
+use Rattle.intake.specs.Orders.{orderOf, sameMark, repeatedIn, ordersRepeated}
 use Rattle.intake.specs.declared.RepeatedOrders.{RepeatedOrders}
 
 -- rows of a list: r behind the rows a, q behind r and the rows b

@@ -3,18 +3,18 @@
 use mathlib.Core.Path.{_≡_, refl, sym, ap, _∙_, subst}
 use mathlib.Core.Logic.{_⊎_, inl, inr}
 use mathlib.Core.Bool.{Bool, true, false}
-use Prim.Native.Nat.{ℕ, zero, suc, _+_, _≤_, _<_}
+use Prim.Native.Nat.{ℕ, suc, _+_, _≤_, _<_}
 use native.Mathlib.Omega.{arith}
 use native.Mathlib.Decide.{decLe}
 use mathlib.Core.List.{List, [], _∷_, _++_, append-assoc, append-nil}
-use lib.Dec.{eqb, ltb, leb}
-use borrow.Author.Tests.{eqb-true, eqb-false, eq-eqb, ne-eqb, le-leb, lt-leb, lt-ltb, le-ltb}
+use lib.Dec.{eqb, ltb}
+use borrow.Author.Tests.{eqb-true, eqb-false, eq-eqb, ne-eqb, le-leb, lt-leb, lt-ltb}
 use Rattle.endian.specs.Pick.{pick}
 use Rattle.intake.specs.Places.{one, count, Has, Same}
 use Rattle.intake.specs.Blocks.{nowhere, Firstly, Least, lesserOf, nextSame, leastPair}
 use Rattle.intake.specs.declared.pairs.Pair.{Pair}
-use Rattle.intake.proofs.Counting.{count-append, Snoc, old, new, snoc-cases, snoc-old, snoc-new, same-has, same-back}
-use Rattle.intake.proofs.Walking.{Above, Ascends, above-less}
+use Rattle.intake.proofs.Counting.{count-append, old, new, snoc-cases, snoc-old, snoc-new, same-has, same-back}
+use Rattle.intake.proofs.Walking.{Above, Ascends}
 
 -- ---- lists that rise
 

@@ -3,13 +3,13 @@
 use mathlib.Core.Path.{_≡_, refl, sym, ap, _∙_}
 use mathlib.Core.Logic.{inl, inr}
 use mathlib.Core.Bool.{Bool, true, false}
-use Prim.Native.Nat.{ℕ, zero, suc, _+_, _-_, _*_, _/_, _%_, _≤_, _<_}
+use Prim.Native.Nat.{ℕ, zero, suc, _+_, _-_, _*_, _%_, _≤_, _<_}
 use native.Mathlib.Omega.{arith}
 use native.Mathlib.Numerals.{add-one}
 use native.Mathlib.Decide.{decLe}
 use native.Mathlib.Nat.{zero-add}
 use mathlib.Core.List.{List, [], _∷_, _++_, append-nil, append-assoc}
-use lib.Dec.{leb, eqb}
+use lib.Dec.{eqb}
 use lib.ListN.{length, take, drop, length-drop}
 use lib.Seq.{length-take-le}
 use borrow.Author.Tests.{le-leb, lt-leb, eq-eqb, ne-eqb, eqb-true}
@@ -18,15 +18,14 @@ use Rattle.endian.specs.Numbers.{part, numberAt}
 use Rattle.endian.proofs.Places.{part-take, part-drop, drop-part, number-take, number-drop}
 use Rattle.refusals.specs.Verdict.{verdict, accepted}
 use Rattle.refusals.specs.declared.Verdict.{Verdict}
-use Rattle.page.specs.Layout.{pageBytes, bodyBytes, rowHead, dataType, pagesIn, pageAt, typeOf, countOf, bodyOf, slotOff, slotLen, slotAt, payloadOf}
+use Rattle.page.specs.Layout.{pageBytes, dataType, pagesIn, pageAt, typeOf, countOf, bodyOf, slotOff, slotLen, slotAt, payloadOf}
 use Rattle.page.specs.Good.{DataGood, Good}
 use Rattle.page.specs.Fault.{faultOf, faultVerdict, sizeWrong, verdictFrom, verdictOf}
 use Rattle.page.specs.Rows.{visible, row, slotRows, pageRows, rowsFrom, visibleRows, rowPayload, firstWith}
 use Rattle.page.specs.declared.Row.{Row}
-use Rattle.page.specs.declared.NextRow.{NextRow}
-use Rattle.page.specs.declared.NextRow.the-variants.{At, NoMore}
+use Rattle.page.specs.declared.NextRow.the-variants.{At}
 use Rattle.page.proofs.Slots.{slot-in}
-use Rattle.page.proofs.Verdicts.{page-length, right-size, Bad, number-of, case-size, accepted-good, good-accepted, bad-refused}
+use Rattle.page.proofs.Verdicts.{right-size, number-of, case-size, accepted-good, good-accepted, bad-refused}
 use Rattle.page.proofs.Visibility.{empty}
 use Rattle.intake.specs.Orders.{markOf, isOrder, bears, orderOf, noOrder, refusedOrder, shortIn, foundBy, foundIn, orderFound}
 use Rattle.intake.specs.Places.{wide}

@@ -1,18 +1,17 @@
 -- The places of the visible orders from a slot on: how code goes from row to row, and that they rise.
 -- Assumes nothing.
-use mathlib.Core.Path.{_≡_, refl, sym, ap, _∙_}
-use mathlib.Core.Logic.{_⊎_, inl, inr}
+use mathlib.Core.Path.{_≡_, sym, ap, _∙_}
+use mathlib.Core.Logic.{inl, inr}
 use mathlib.Core.Bool.{Bool, true, false}
-use Prim.Native.Nat.{ℕ, zero, suc, _+_, _*_, _≤_, _<_}
+use Prim.Native.Nat.{ℕ, suc, _+_, _*_, _≤_, _<_}
 use native.Mathlib.Omega.{arith}
-use mathlib.Core.List.{List, [], _∷_, _++_}
+use mathlib.Core.List.{List, [], _∷_}
 use lib.ListN.{length}
 use Rattle.endian.specs.Pick.{pick, consIf}
 use Rattle.page.specs.Layout.{pagesIn}
 use Rattle.page.specs.Rows.{visible, visibleRows, rowPayload, atOrAfter, firstAt, rowsAt, Listable}
 use Rattle.page.specs.declared.Row.{Row}
-use Rattle.page.specs.declared.NextRow.{NextRow}
-use Rattle.page.specs.declared.NextRow.the-variants.{At, NoMore}
+use Rattle.page.specs.declared.NextRow.the-variants.{At}
 use Rattle.page.proofs.ListedRows.{Each, Standing, rows-each, rows-stand}
 use Rattle.page.proofs.RowLists.{Before, Rising, lower, down, rising-pages, all-at, rowOr, row-next}
 use Rattle.page.proofs.Visibility.{empty}

@@ -1,5 +1,5 @@
 -- Orders and their request marks (paper 02, W9): the first visible order with a mark, and the least pair of visible orders with the same one.
-use Prim.Native.Nat.{ℕ, zero, suc}
+use Prim.Native.Nat.{ℕ, suc}
 use mathlib.Core.Bool.{Bool, true, false}
 use mathlib.Core.List.{List, [], _∷_}
 use lib.ListN.{length}

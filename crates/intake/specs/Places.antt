@@ -1,11 +1,11 @@
 -- Only the algorithm needs this: orders as numbers, their places, which rise in the order of the listing; and what a list of numbers holds, in any order.
-use Prim.Native.Nat.{ℕ, zero, suc, _+_, _*_, _/_, _%_, _≤_, _<_}
+use Prim.Native.Nat.{ℕ, _+_, _*_, _/_, _%_, _≤_, _<_}
 use mathlib.Core.Path.{_≡_}
 use mathlib.Core.Bool.{Bool, true, false}
-use mathlib.Core.List.{List, [], _∷_, _++_}
-use lib.ListN.{length, getD}
+use mathlib.Core.List.{List, [], _∷_}
+use lib.ListN.{length}
 use lib.Dec.{eqb}
-use Rattle.endian.specs.Pick.{pick, consIf}
+use Rattle.endian.specs.Pick.{consIf}
 use Rattle.endian.specs.Numbers.{numberAt, Bytes}
 use Rattle.page.specs.Rows.{visibleRows, rowPayload, rowsAt}
 use Rattle.page.specs.declared.Row.{Row}

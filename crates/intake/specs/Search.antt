@@ -1,6 +1,6 @@
 -- Only the algorithm needs this: a search for a mark that goes from tuple to tuple.
 use Prim.Native.Nat.{ℕ, zero, suc, _+_}
-use mathlib.Core.Bool.{true, false}
+use mathlib.Core.Bool.{true}
 use mathlib.Core.List.{List}
 use lib.Dec.{eqb}
 use Rattle.endian.specs.Pick.{pick}

@@ -1,11 +1,9 @@
 use mathlib.Core.Path.{_≡_, refl, sym, ap, _∙_}
-use mathlib.Core.Bool.{true, false}
 use native.Mathlib.Omega.{arith}
 use borrow.Author.Needs.{needs}
-use Prim.Native.Nat.{_+_}
 use lib.ListN.{length}
 use Rattle.endian.specs.Numbers.{Bytes}
-use Rattle.page.specs.Rows.{visible, visibleRows, firstAt, rowsAt}
+use Rattle.page.specs.Rows.{visibleRows, firstAt, rowsAt}
 use Rattle.page.specs.declared.NextRow.the-variants.{At}
 use Rattle.page.proofs.RowLists.{row-next, row-none}
 use Rattle.intake.specs.Places.{placesFrom}

@@ -1,11 +1,8 @@
 -- The invariant: what was put and what is left are all.
-use mathlib.Core.Path.{_≡_, refl, sym, ap, _∙_}
-use Prim.Native.Nat.{_-_, _≤_}
-use mathlib.Core.List.{_++_}
+use Prim.Native.Nat.{_-_}
 use native.Mathlib.Omega.{arith}
 use borrow.Author.Needs.{needs}
-use lib.ListN.{length, take, length-set}
-use Rattle.intake.specs.Places.{Places, placesFrom}
+use lib.ListN.{length, length-set}
 use Rattle.intake.proofs.Filling.{Put, put-none, put-more, filled-end, filled-full}
 use Rattle.intake.proofs.pairs.fill.Statement.{statement}
 use Rattle.intake.proofs.pairs.fill.Tie as tie

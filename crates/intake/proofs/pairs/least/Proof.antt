@@ -1,8 +1,6 @@
 -- The invariant: the least pair of what is left is the least of all.
-use mathlib.Core.Path.{_≡_, refl, sym, ap, _∙_}
-use Prim.Native.Nat.{_<_}
+use mathlib.Core.Path.{_≡_, refl, _∙_}
 use native.Mathlib.Omega.{arith}
-use borrow.Author.Needs.{needs}
 use lib.ListN.{length}
 use Rattle.intake.specs.Places.{markAt, placesFrom}
 use Rattle.intake.specs.Blocks.{leastPair}

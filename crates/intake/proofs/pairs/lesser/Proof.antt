@@ -1,4 +1,3 @@
-use native.Mathlib.Omega.{arith}
 use borrow.Author.Tests.{le-leb, lt-leb}
 use Rattle.intake.specs.Blocks.{lesserOf}
 use Rattle.intake.proofs.pairs.lesser.Statement.{statement}

@@ -1,9 +1,7 @@
 -- The invariant: what is before lo has a mark below, and what is from hi on has not.
 use mathlib.Core.Path.{sym, _∙_}
 use Prim.Native.Nat.{_-_, _+_, _/_, _≤_}
-use mathlib.Core.Logic.{inl}
 use native.Mathlib.Omega.{arith}
-use borrow.Author.Needs.{needs}
 use borrow.Author.Tests.{ltb-true, ltb-false}
 use Rattle.intake.specs.Places.{markAt, wide}
 use Rattle.intake.specs.Blocks.{Around}

@@ -1,8 +1,7 @@
 -- The invariant: the slots from k on make of what is known what all make of what was known before.
-use mathlib.Core.Path.{_≡_, refl, sym, ap, _∙_}
+use mathlib.Core.Path.{_≡_, ap, _∙_}
 use Prim.Native.Nat.{ℕ, _+_, _-_, _≤_}
 use native.Mathlib.Omega.{arith}
-use borrow.Author.Needs.{needs}
 use Rattle.page.specs.Layout.{slotAt}
 use Rattle.intake.specs.Places.{wide}
 use Rattle.intake.specs.Search.{withSlots}
