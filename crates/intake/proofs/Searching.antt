@@ -2,7 +2,7 @@
 -- Assumes nothing.
 use mathlib.Core.Path.{_≡_, refl, sym, ap, _∙_}
 use mathlib.Core.Logic.{inl, inr}
-use mathlib.Core.Bool.{Bool, true, false}
+use mathlib.Core.Bool.{Bool, true, false, not}
 use Prim.Native.Nat.{ℕ, zero, suc, _+_, _-_, _*_, _%_, _≤_, _<_}
 use native.Mathlib.Omega.{arith}
 use native.Mathlib.Numerals.{add-one}
@@ -24,12 +24,13 @@ use Rattle.page.specs.Fault.{faultOf, faultVerdict, sizeWrong, verdictFrom, ver
 use Rattle.page.specs.Rows.{visible, row, slotRows, pageRows, rowsFrom, visibleRows, rowPayload, firstWith}
 use Rattle.page.specs.declared.Row.{Row}
 use Rattle.page.specs.declared.NextRow.the-variants.{At}
+use Rattle.page.proofs.Picks.{never}
 use Rattle.page.proofs.Slots.{slot-in}
 use Rattle.page.proofs.Verdicts.{right-size, number-of, case-size, accepted-good, good-accepted, bad-refused}
 use Rattle.page.proofs.Visibility.{empty}
 use Rattle.intake.specs.Orders.{markOf, isOrder, bears, orderOf, noOrder, refusedOrder, shortIn, foundBy, foundIn, orderFound}
 use Rattle.intake.specs.Places.{wide}
-use Rattle.intake.specs.Search.{orderIn, withPayload, withTuple, withSlots, withPage}
+use Rattle.intake.specs.Search.{orderIn, withPayload, withTuple, isOther, passesOver, withSlots, withPage}
 use Rattle.intake.specs.declared.FoundOrder.{FoundOrder}
 use Rattle.intake.specs.declared.Order.{Order}
 use Rattle.intake.proofs.Halves.{halves-at}
@@ -49,6 +50,10 @@ module _ (mark i k : ℕ) (p : List ℕ) (at n : ℕ) (within : at + n ≤ lengt
   pub with-short : n < 48 → record { verdict = g .verdict; found = g .found; order = g .order; short = g .short + 1 } ≡ withPayload mark i k payload g
   unfolding withPayload isOrder
   with-short h = rw (lt-leb 24 (length payload) (omega (arith, payload-long)))
+
+  pub other-short : n < 48 → false ≡ isOther mark payload
+  unfolding isOther isOrder
+  other-short h = rw (lt-leb 24 (length payload) (omega (arith, payload-long)))
 
   module _ (h : 48 ≤ n) where
     is-order : isOrder payload ≡ true
@@ -71,6 +76,14 @@ module _ (mark i k : ℕ) (p : List ℕ) (at n : ℕ) (within : at + n ≤ lengt
           go : (t : Bool) → g ≡ pick t g g
           go true = refl
           go false = refl
+
+      pub other-same : b ≡ true → false ≡ isOther mark payload
+      unfolding isOther
+      other-same e = let z : bears mark payload ≡ true = sym bearing ∙ e in rw (is-order, z)
+
+      pub other-is : b ≡ false → true ≡ isOther mark payload
+      unfolding isOther
+      other-is e = let z : bears mark payload ≡ false = sym bearing ∙ e in rw (is-order, z)
 
       pub with-here : g .found ≡ false → b ≡ true → (o : Order) → o ≡ record { page = record { 0 = i }; slot = k; part = numberAt 4 (at + 40) p; quantity = numberAt 4 (at + 44) p }
           → record { verdict = g .verdict; found = true; order = o; short = g .short } ≡ withPayload mark i k payload g
@@ -113,6 +126,11 @@ module _ (mark i : ℕ) (p : List ℕ) (size : length p ≡ pageBytes) (d : Data
       let z : slotAt p k ≡ [] = slot-in p k l ∙ ap (λ (n : ℕ). part (slotOff (bodyOf p) k) n (bodyOf p)) (sym e) in
       rw (z, empty true)
 
+  pub over-empty : 0 ≡ slotLen (bodyOf p) k → true ≡ passesOver mark (slotAt p k)
+  over-empty e =
+      let z : slotAt p k ≡ [] = slot-in p k l ∙ ap (λ (n : ℕ). part (slotOff (bodyOf p) k) n (bodyOf p)) (sym e) in
+      rw (z, empty true)
+
   -- it has one
   module _ (some : 0 < slotLen (bodyOf p) k) (o n : ℕ) (eo : o ≡ slotOff (bodyOf p) k) (en : n ≡ slotLen (bodyOf p) k) where
     pub tuple-in : (64 + o + n ≤ length p) × (24 ≤ n)
@@ -126,8 +144,30 @@ module _ (mark i : ℕ) (p : List ℕ) (size : length p ≡ pageBytes) (d : Data
     pub slot-seen : visible (slotAt p k) ≡ true → (r : FoundOrder) → r ≡ withPayload mark i k (part (64 + o + 24) (n - 24) p) g → r ≡ withTuple mark i k (slotAt p k) g
     slot-seen v r e = e ∙ rw (v, payload-there)
 
+    pub over-seen : visible (slotAt p k) ≡ true → (r : Bool) → r ≡ isOther mark (part (64 + o + 24) (n - 24) p) → r ≡ passesOver mark (slotAt p k)
+    over-seen v r e = e ∙ rw (v, payload-there)
+
+    pub over-passed : visible (slotAt p k) ≡ false → true ≡ passesOver mark (slotAt p k)
+    over-passed v = rw v
+
     pub slot-passed : visible (slotAt p k) ≡ false → g ≡ withTuple mark i k (slotAt p k) g
     slot-passed v = rw v
+
+-- a tuple that is passed over changes nothing
+pub over-same : (mark i k : ℕ) (t : List ℕ) (g : FoundOrder) → passesOver mark t ≡ true → g ≡ withTuple mark i k t g
+unfolding isOther withPayload
+over-same mark i k t g e = go (visible t) (isOrder (payloadOf t)) (bears mark (payloadOf t)) e
+  where
+    by : (a : Bool) → g ≡ pick a g g
+    by true = refl
+    by false = refl
+
+    go : (v o b : Bool) → pick v (pick o (not b) false) true ≡ true
+        → g ≡ pick v (pick o (pick (g .found) g (pick b (record { verdict = g .verdict; found = true; order = orderIn i k (payloadOf t); short = g .short }) g)) (record { verdict = g .verdict; found = g .found; order = g .order; short = g .short + 1 })) g
+    go true true true q = never q
+    go true true false q = by (g .found)
+    go true false b q = never q
+    go false o b q = refl
 
 -- ---- the slots of a page, one after the other
 

@@ -1,6 +1,6 @@
 -- Only the algorithm needs this: a search for a mark that goes from tuple to tuple.
 use Prim.Native.Nat.{ℕ, zero, suc, _+_}
-use mathlib.Core.Bool.{true}
+use mathlib.Core.Bool.{Bool, true, false, not}
 use mathlib.Core.List.{List}
 use lib.Dec.{eqb}
 use Rattle.endian.specs.Pick.{pick}
@@ -24,6 +24,14 @@ withPayload mark i k p g =
 -- after a tuple, visible or not
 abbrev pub withTuple : ℕ → ℕ → ℕ → List ℕ → FoundOrder → FoundOrder
 withTuple mark i k t g = pick (visible t) (withPayload mark i k (payloadOf t) g) g
+
+-- an order with another mark
+unfoldable pub isOther : ℕ → List ℕ → Bool
+isOther mark p = pick (isOrder p) (not (bears mark p)) false
+
+-- a tuple that changes nothing: it is not visible, or an order with another mark
+abbrev pub passesOver : ℕ → List ℕ → Bool
+passesOver mark t = pick (visible t) (isOther mark (payloadOf t)) true
 
 -- after the n slots of page i, which is p, from k on
 unfoldable pub withSlots : ℕ → ℕ → List ℕ → ℕ → ℕ → FoundOrder → FoundOrder

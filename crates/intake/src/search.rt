@@ -11,7 +11,7 @@ ghost use Rattle.page.specs.Fault.{sizeWrong};
 ghost use Rattle.page.specs.Rows.{visible};
 ghost use Rattle.intake.specs.Orders.{orderFound, refusedOrder};
 ghost use Rattle.intake.specs.Places.{wide};
-ghost use Rattle.intake.specs.Search.{withPayload, withTuple, withSlots, withPage};
+ghost use Rattle.intake.specs.Search.{withPayload, withTuple, isOther, passesOver, withSlots, withPage};
 use crate::FoundOrder;
 use crate::no_order;
 use crate::orders::TUPLE_BYTES;
@@ -115,6 +115,38 @@ fn met_slot(
     known
 }
 
+// Whether the payload of the tuple of n bytes at a place of the page is an order with another mark.
+fn is_other(page: &[u8], at: usize, n: usize, low: u64, high: u64) -> bool
+    requires { ⌜ (at + n ≤ length (now page)) × (24 ≤ n) ⌝ }
+    ensures { λ r. ⌜ r ≡ isOther (wide low high) (part (at + 24) (n - 24) (now (page .entry))) ⌝ }
+{
+    if n < TUPLE_BYTES {
+        return false;
+    }
+    if has_mark(page, at, low, high) {
+        return false;
+    }
+    true
+}
+
+// Whether slot k changes nothing of what is known: most slots, which are told without handing it on.
+fn passes_over(page: &[u8], k: usize, low: u64, high: u64) -> bool
+    requires { ⌜ length (now page) ≡ pageBytes ⌝ }
+    requires { ⌜ DataGood (now page) ⌝ }
+    requires { ⌜ k < countOf (now page) ⌝ }
+    ensures { λ r. ⌜ r ≡ passesOver (wide low high) (slotAt (now (page .entry)) k) ⌝ }
+{
+    let n = slot_len(page, k);
+    if n == 0 {
+        return true;
+    }
+    let o = slot_off(page, k);
+    if is_visible(page, k, o) {
+        return is_other(page, HEAD_BYTES + o, n, low, high);
+    }
+    true
+}
+
 // What is known after all slots of a Data page.
 fn met_slots(page: &[u8], index: usize, low: u64, high: u64, known: FoundOrder) -> FoundOrder
     requires { ⌜ length (now page) ≡ pageBytes ⌝ }
@@ -126,6 +158,10 @@ fn met_slots(page: &[u8], index: usize, low: u64, high: u64, known: FoundOrder) 
     let mut found = known;
     let mut k: usize = 0;
     while k < n {
+        if passes_over(page, k, low, high) {
+            k += 1;
+            continue;
+        }
         found = met_slot(page, index, k, low, high, found);
         k += 1;
     }

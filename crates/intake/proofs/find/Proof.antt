@@ -1,4 +1,5 @@
 use mathlib.Core.Path.{sym, ap, _∙_}
+use native.Mathlib.Omega.{arith}
 use borrow.Author.Needs.{needs}
 use Rattle.intake.specs.Orders.{orderFound}
 use Rattle.intake.proofs.Searching.{find-size, mark-read}

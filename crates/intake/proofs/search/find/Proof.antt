@@ -1,11 +1,11 @@
 -- The invariant: the pages before page i are good, and were gone over.
-use mathlib.Core.Path.{sym}
-use Prim.Native.Nat.{_-_}
+use mathlib.Core.Path.{_≡_, refl, sym, ap, _∙_}
+use Prim.Native.Nat.{_-_, _≤_}
 use native.Mathlib.Omega.{arith}
 use borrow.Author.Needs.{needs}
 use lib.Seq.{length-take-le}
 use Rattle.page.specs.Layout.{pagesIn}
-use Rattle.page.proofs.Verdicts.{page-part, right-size}
+use Rattle.page.proofs.Verdicts.{page-length, page-part, right-size}
 use Rattle.intake.specs.Places.{wide}
 use Rattle.intake.proofs.Searching.{Gone, gone-none, page-good, gone-refused, gone-more, gone-all}
 use Rattle.intake.proofs.search.find.Statement.{statement}

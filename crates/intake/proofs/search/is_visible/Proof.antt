@@ -1,4 +1,6 @@
+use mathlib.Core.Path.{sym, _∙_}
 use native.Mathlib.Omega.{arith}
+use borrow.Author.Needs.{needs}
 use Rattle.page.proofs.Visibility.{header-in, seen-deleted, seen-xmax}
 use Rattle.intake.proofs.search.is_visible.Statement.{statement}
 use Rattle.intake.proofs.search.is_visible.Tie as tie

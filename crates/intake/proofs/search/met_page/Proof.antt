@@ -1,4 +1,6 @@
 use mathlib.Core.Path.{sym, _∙_}
+use native.Mathlib.Omega.{arith}
+use borrow.Author.Needs.{needs}
 use Rattle.intake.proofs.Searching.{page-other, page-data}
 use Rattle.intake.proofs.search.met_page.Statement.{statement}
 use Rattle.intake.proofs.search.met_page.Tie as tie

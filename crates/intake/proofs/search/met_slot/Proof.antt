@@ -1,5 +1,9 @@
 use mathlib.Core.Path.{sym, _∙_}
 use native.Mathlib.Omega.{arith}
+use borrow.Author.Needs.{needs}
+use Prim.Native.Nat.{_<_}
+use Rattle.page.specs.Layout.{countOf}
+use Rattle.page.specs.Good.{DataGood}
 use Rattle.intake.proofs.Searching.{slot-empty, tuple-in, slot-seen, slot-passed, slot-low}
 use Rattle.intake.proofs.search.met_slot.Statement.{statement}
 use Rattle.intake.proofs.search.met_slot.Tie as tie
