@@ -1,5 +1,5 @@
--- The example history and three files of its log meet every hypothesis of demand 3: it is honest, its log ends exactly, its pages stand at their moments, each file has what they felt, and
--- recovery accepts it.
+-- The example history and files of its log meet every hypothesis of the first half of demand 3: it is honest, its log ends exactly, its pages stand at their moments, each file has what they felt, and
+-- recovery accepts it. Of one file the zeros complete a change that a page has felt.
 -- Assumes nothing.
 use mathlib.Core.Path.{_≡_, refl, sym, ap, _∙_}
 use mathlib.Core.Bool.{Bool, true, false}
@@ -10,7 +10,7 @@ use lib.ListN.{length, take, drop, getD, replicate}
 use lib.Dec.{eqb, lit<, lit≤}
 use borrow.Author.Tests.{eqb-true}
 use Rattle.endian.specs.Pick.{pick}
-use Rattle.endian.specs.Numbers.{bytesOf, numberOf, numberAt}
+use Rattle.endian.specs.Numbers.{Bytes, bytesOf, numberOf, numberAt}
 use Rattle.wal.specs.Entry.{Entry, AllEncodable, encoded, encodedAll, unsealed, header, sizesOf}
 use Rattle.wal.specs.Read.{headerFault, allZero, readAt}
 use Rattle.wal.specs.Walk.{entries, endOf, endingOf}
@@ -23,16 +23,17 @@ use Rattle.rules.specs.Order.{begun, ended, isOpen, inOrder, clashes, faultAfte
 use Rattle.rules.specs.Mend.{committed, changes, topOf, decided}
 use Rattle.rules.specs.Recover.{recoverOf}
 use Rattle.rules.proofs.Slots.{changes-past}
-use Rattle.history.specs.History.{State, loggedIn, Finds, run, start, Honest}
+use Rattle.history.specs.History.{State, loggedIn, Finds, run, start, Honest, ledger}
 use Rattle.history.specs.Demand3.{History, Stands, HasFelt}
 use Rattle.history.proofs.OneSlot.{untouched}
-use Rattle.cases.specs.Build.{begins, inserts, updates, magic, page}
+use Rattle.history.proofs.Demand3.{demand3}
+use Rattle.cases.specs.Build.{inserts, updates, magic, page}
 use Rattle.cases.specs.Starred.{a, b, c, noRecord}
-use Rattle.cases.specs.Example.{before, steps, whole, all, log, torn, roomy, completed, moment, stood}
-use Rattle.cases.proofs.Parts.{tuple-bytes, bare, insertable, updatable}
+use Rattle.cases.specs.Example.{before, change, steps, whole, all, log, torn, roomy, completed, bareCut, roomier, moment, stood, lastMoment, lastStood}
+use Rattle.cases.proofs.Parts.{tuple-bytes, bare, insertable, updatable, bytes-log}
 use Rattle.cases.proofs.Area.{PageOk, EachPage, empty-ok, filled-ok, pages-in, page-at, slot-of, type-of}
 use Rattle.cases.proofs.Pages.{Says, ends-log, Computes, number}
-use Rattle.cases.proofs.Behind.{Behind, end-is, ending-is, says-file}
+use Rattle.cases.proofs.Behind.{Behind, entries-is, end-is, ending-is, says-file}
 use Rattle.rules.specs.Lent.{lent}
 
 -- ---- pages
@@ -85,7 +86,8 @@ encodable = (
 pub all-encodable : AllEncodable all
 all-encodable =
     let e = encodable in
-    (e .0, (e .1 .0, (e .1 .1 .0, (e .1 .1 .1 .0, (e .1 .1 .1 .1 .0, (e .1 .1 .1 .1 .1 .0, (e .1 .1 .1 .1 .1 .1 .0, (e .1 .1 .1 .1 .1 .1 .1 .0, (bare 1 9 10 (lit< tt) (lit< tt) (lit< tt), tt)))))))))
+    let last = updatable 9 8 1 0 (lit< tt) (lit< tt) (tuple-bytes 29 1 (lit< tt)) (tuple-bytes 29 2 (lit< tt)) (lit≤ tt) in
+    (e .0, (e .1 .0, (e .1 .1 .0, (e .1 .1 .1 .0, (e .1 .1 .1 .1 .0, (e .1 .1 .1 .1 .1 .0, (e .1 .1 .1 .1 .1 .1 .0, (e .1 .1 .1 .1 .1 .1 .1 .0, (last, tt)))))))))
 
 -- the state after n steps
 abbrev at : ℕ → State
@@ -105,7 +107,7 @@ honest = (
           λ i k d. finds (at 4) (inserts 5 8 1 0 a) (first-1 0) i k,
           (
             λ i k d. tt,
-            (λ i k d. finds (at 6) (updates 7 9 0 0 b c) refl i k, (λ i k d. finds (at 7) (inserts 8 9 0 1 a) (first-0 1) i k, (λ i k d. tt, tt))),
+            (λ i k d. finds (at 6) (updates 7 9 0 0 b c) refl i k, (λ i k d. finds (at 7) (inserts 8 9 0 1 a) (first-0 1) i k, (λ i k d. finds (at 9) change refl i k, tt))),
           ),
         ),
       ),
@@ -116,6 +118,10 @@ honest = (
 unfoldable pub example : History
 example = record { pages = before; steps = steps; log = log; honest = honest; inLog = entries-log all all-encodable; ends = ends-log all all-encodable }
 
+pub bytes-example : Bytes (example .log)
+unfolding example
+bytes-example = bytes-log all all-encodable
+
 -- ---- the pages stand at their moments
 
 pub stood-ok : EachPage PageOk (page 7 (c ∷ []) ∷ page 5 (a ∷ []) ∷ [])
@@ -123,6 +129,12 @@ stood-ok = (filled-ok 7 3 (lit< tt) (lit< tt), (filled-ok 5 1 (lit< tt) (lit< tt
 
 pub two : pagesIn stood ≡ 2
 two = pages-in (page 7 (c ∷ []) ∷ page 5 (a ∷ []) ∷ []) stood-ok
+
+pub last-ok : EachPage PageOk (page 7 (c ∷ []) ∷ page 9 (b ∷ []) ∷ [])
+last-ok = (stood-ok .0, (filled-ok 9 2 (lit< tt) (lit< tt), tt))
+
+pub two-last : pagesIn lastStood ≡ 2
+two-last = pages-in (page 7 (c ∷ []) ∷ page 9 (b ∷ []) ∷ []) last-ok
 
 slot-0 : (k : ℕ) → getD (c ∷ []) k [] ≡ run (start before) (take 9 steps) .slot 0 k
 unfolding effectOn isOn isChanging beforeOf afterOf numberAt numberOf bytesOf topOf topOn
@@ -135,23 +147,37 @@ unfolding effectOn isOn isChanging beforeOf afterOf numberAt numberOf bytesOf to
 slot-1 zero = refl
 slot-1 (suc k) = sym (untouched 1 (suc k) (start before) (take 5 steps) (λ t. refl) (changes-past 1 (suc k) (loggedIn (take 5 steps)) (omega arith)) ∙ first-1 (suc k))
 
+slot-1-last : (k : ℕ) → getD (b ∷ []) k [] ≡ run (start before) (take 10 steps) .slot 1 k
+unfolding effectOn isOn isChanging beforeOf afterOf numberAt numberOf bytesOf topOf topOn
+slot-1-last zero = refl
+slot-1-last (suc k) = sym (untouched 1 (suc k) (start before) (take 10 steps) (λ t. refl) (changes-past 1 (suc k) (loggedIn (take 10 steps)) (omega arith)) ∙ first-1 (suc k))
+
+data-page : (i : ℕ) → i < 2 → typeOf (pageAt i before) ≡ dataType
+data-page zero l = ap typeOf (page-at (page 0 (a ∷ []) ∷ page 0 [] ∷ []) first-ok 0 (lit< tt)) ∙ type-of 0 _ (first-ok .0)
+data-page (suc zero) l = ap typeOf (page-at (page 0 (a ∷ []) ∷ page 0 [] ∷ []) first-ok 1 (lit< tt)) ∙ type-of 1 _ (first-ok .1 .0)
+data-page (suc (suc i)) l = absurd (omega arith)
+
 pub stands : Stands example moment stood
 unfolding example
-stands = record { type = λ i l d. data-page i l; slots = λ i k l d. each i k l }
+stands = record { type = λ i l d. data-page i (omega (arith, two)); slots = λ i k l d. each i k l }
   where
-    data-page : (i : ℕ) → i < pagesIn stood → typeOf (pageAt i before) ≡ dataType
-    data-page zero l = ap typeOf (page-at (page 0 (a ∷ []) ∷ page 0 [] ∷ []) first-ok 0 (lit< tt)) ∙ type-of 0 _ (first-ok .0)
-    data-page (suc zero) l = ap typeOf (page-at (page 0 (a ∷ []) ∷ page 0 [] ∷ []) first-ok 1 (lit< tt)) ∙ type-of 1 _ (first-ok .1 .0)
-    data-page (suc (suc i)) l = absurd (omega (arith, two))
-
     each : (i k : ℕ) → i < pagesIn stood → slotAt (pageAt i stood) k ≡ run (start before) (take (moment i) steps) .slot i k
     each zero k l = ap (λ (p : List ℕ). slotAt p k) (page-at (page 7 (c ∷ []) ∷ page 5 (a ∷ []) ∷ []) stood-ok 0 (lit< tt)) ∙ slot-of 0 _ (stood-ok .0) k ∙ slot-0 k
     each (suc zero) k l = ap (λ (p : List ℕ). slotAt p k) (page-at (page 7 (c ∷ []) ∷ page 5 (a ∷ []) ∷ []) stood-ok 1 (lit< tt)) ∙ slot-of 1 _ (stood-ok .1 .0) k ∙ slot-1 k
     each (suc (suc i)) k l = absurd (omega (arith, two))
 
+pub stands-last : Stands example lastMoment lastStood
+unfolding example
+stands-last = record { type = λ i l d. data-page i (omega (arith, two-last)); slots = λ i k l d. each i k l }
+  where
+    each : (i k : ℕ) → i < pagesIn lastStood → slotAt (pageAt i lastStood) k ≡ run (start before) (take (lastMoment i) steps) .slot i k
+    each zero k l = ap (λ (p : List ℕ). slotAt p k) (page-at (page 7 (c ∷ []) ∷ page 9 (b ∷ []) ∷ []) last-ok 0 (lit< tt)) ∙ slot-of 0 _ (last-ok .0) k ∙ slot-0 k
+    each (suc zero) k l = ap (λ (p : List ℕ). slotAt p k) (page-at (page 7 (c ∷ []) ∷ page 9 (b ∷ []) ∷ []) last-ok 1 (lit< tt)) ∙ slot-of 1 _ (last-ok .1 .0) k ∙ slot-1-last k
+    each (suc (suc i)) k l = absurd (omega (arith, two-last))
+
 -- ---- files of the log
 
-torn-behind : Behind torn whole (take 20 (encoded (begins 9 10))) Torn
+torn-behind : Behind torn whole (take 20 (encoded change)) Torn
 unfolding headerFault readAt allZero encodedAll encoded unsealed header bytesOf numberAt numberOf
 torn-behind = record { is = refl; head = refl; reads = refl; never = λ v q. not-torn q }
 
@@ -162,6 +188,14 @@ roomy-behind = record { is = refl; head = refl; reads = refl; never = λ v q. no
 completed-behind : Behind completed all (replicate 4 0) Unused
 unfolding headerFault readAt allZero encodedAll encoded unsealed header bytesOf numberAt numberOf
 completed-behind = record { is = refl; head = refl; reads = refl; never = λ v q. not-unused q }
+
+bare-behind : Behind bareCut whole (take 130 (encoded change)) Torn
+unfolding headerFault readAt allZero encodedAll encoded unsealed header bytesOf numberAt numberOf
+bare-behind = record { is = refl; head = refl; reads = refl; never = λ v q. not-torn q }
+
+roomier-behind : Behind roomier all (replicate 20 0) Unused
+unfolding headerFault readAt allZero encodedAll encoded unsealed header bytesOf numberAt numberOf
+roomier-behind = record { is = refl; head = refl; reads = refl; never = λ v q. not-unused q }
 
 pub end-torn : endOf torn ≡ 32 + sizesOf whole
 end-torn = end-is torn-behind encodable
@@ -179,6 +213,9 @@ says-roomy = says-file roomy-behind encodable (λ at. refl)
 pub says-completed : Says completed all
 says-completed = says-file completed-behind all-encodable (λ at. refl)
 
+pub says-roomier : Says roomier all
+says-roomier = says-file roomier-behind all-encodable (λ at. refl)
+
 -- ---- each file has what the pages felt
 
 felt-whole : (file : List ℕ) → Says file whole → HasFelt example moment stood file
@@ -195,13 +232,29 @@ felt = felt-whole torn says
 pub felt-roomy : HasFelt example moment stood roomy
 felt-roomy = felt-whole roomy says-roomy
 
-pub felt-completed : HasFelt example moment stood completed
+felt-all : (file : List ℕ) → Says file all → HasFelt example lastMoment lastStood file
 unfolding example topOf
-felt-completed = record { felt = λ i l d. each i l }
+felt-all file s = record { felt = λ i l d. each i l }
   where
-    each : (i : ℕ) → i < pagesIn stood → topOf i (drop (length (entries completed)) (loggedIn (take (moment i) steps))) ≡ 0
-    each zero l = rw (says-completed .says)
-    each (suc i) l = rw (says-completed .says)
+    each : (i : ℕ) → i < pagesIn lastStood → topOf i (drop (length (entries file)) (loggedIn (take (lastMoment i) steps))) ≡ 0
+    each zero l = rw (s .says)
+    each (suc i) l = rw (s .says)
+
+-- the last change, which page 1 has felt, among them: the zeros complete it
+pub felt-completed : HasFelt example lastMoment lastStood completed
+felt-completed = felt-all completed says-completed
+
+pub felt-roomier : HasFelt example lastMoment lastStood roomier
+felt-roomier = felt-all roomier says-roomier
+
+-- without the zeros it is missing
+pub not-without-zeros : HasFelt example lastMoment lastStood bareCut → ⊥
+unfolding example topOf topOn isOn isChanging numberAt numberOf bytesOf
+not-without-zeros h =
+    let d = ap typeOf (page-at (page 7 (c ∷ []) ∷ page 9 (b ∷ []) ∷ []) last-ok 1 (lit< tt)) ∙ type-of 1 _ (last-ok .1 .0) in
+    let f : topOf 1 (drop (length (entries bareCut)) all) ≡ 0 = h .felt 1 (omega (arith, two-last)) d in
+    let g : topOf 1 (drop (length whole) all) ≡ 0 = rw (entries-is bare-behind encodable) at f in
+    omega arith
 
 -- ---- recovery accepts each
 
@@ -212,6 +265,9 @@ computes = record { pages = stood-ok; few = lit≤ tt; order = refl; onPage = (l
 computes-all : Computes (page 7 (c ∷ []) ∷ page 5 (a ∷ []) ∷ []) all
 unfolding orderFrom faultAfter isKnown isShaped isBare isImage isKeyed same isChanging inOrder isOpen begun ended clashes sameSlot isOn numberAt numberOf bytesOf
 computes-all = record { pages = stood-ok; few = lit≤ tt; order = refl; onPage = (lit< tt, (lit< tt, (lit< tt, (lit< tt, (lit< tt, (lit< tt, (lit< tt, (lit< tt, (lit< tt, tt))))))))) }
+
+pub computes-last : Computes (page 7 (c ∷ []) ∷ page 9 (b ∷ []) ∷ []) all
+computes-last = record { pages = last-ok; few = computes-all .few; order = computes-all .order; onPage = computes-all .onPage }
 
 pub ok : recoverOf (lent magic 7 stood torn) (replicate 8 noRecord) .answer .number ≡ 0
 unfolding topOn topOf changes effectOn decided committed isOn isChanging numberAt numberOf bytesOf beforeOf afterOf
@@ -225,7 +281,24 @@ pub ok-completed : recoverOf (lent magic 7 stood completed) (replicate 8 noRecor
 unfolding topOn topOf changes effectOn decided committed isOn isChanging numberAt numberOf bytesOf beforeOf afterOf
 ok-completed = number 7 (page 7 (c ∷ []) ∷ page 5 (a ∷ []) ∷ []) completed all (replicate 8 noRecord) refl says-completed computes-all (lit≤ tt, (lit≤ tt, tt)) (λ t. lit≤ tt, (λ t. lit≤ tt, tt))
 
--- both endings are told: unused, at the place behind the last whole entry
+-- page 1 is lent with an LSN above the floor and above the other entries
+pub ok-last : recoverOf (lent magic 7 lastStood completed) (replicate 8 noRecord) .answer .number ≡ 0
+unfolding topOn topOf changes effectOn decided committed isOn isChanging numberAt numberOf bytesOf beforeOf afterOf
+ok-last = number 7 (page 7 (c ∷ []) ∷ page 9 (b ∷ []) ∷ []) completed all (replicate 8 noRecord) refl says-completed computes-last (lit≤ tt, (lit≤ tt, tt)) (λ t. lit≤ tt, (λ t. lit≤ tt, tt))
+
+pub ok-roomier : recoverOf (lent magic 7 lastStood roomier) (replicate 8 noRecord) .answer .number ≡ 0
+unfolding topOn topOf changes effectOn decided committed isOn isChanging numberAt numberOf bytesOf beforeOf afterOf
+ok-roomier = number 7 (page 7 (c ∷ []) ∷ page 9 (b ∷ []) ∷ []) roomier all (replicate 8 noRecord) refl says-roomier computes-last (lit≤ tt, (lit≤ tt, tt)) (λ t. lit≤ tt, (λ t. lit≤ tt, tt))
+
+-- the felt change is taken back: slot 0 of page 1, lent with b, is empty as the ledger says
+pub taken-back : slotAt (pageAt 1 (recoverOf (lent magic 7 lastStood completed) (replicate 8 noRecord) .pages)) 0 ≡ []
+unfolding example ledger committed effectOn isOn isChanging numberAt numberOf bytesOf afterOf
+taken-back =
+    let d = ap typeOf (page-at (page 7 (c ∷ []) ∷ page 9 (b ∷ []) ∷ []) last-ok 1 (lit< tt)) ∙ type-of 1 _ (last-ok .1 .0) in
+    demand3 example .exact magic 7 lastMoment lastStood (32 + sizesOf whole + 130) 7 (replicate 8 noRecord) stands-last felt-completed ok-last 1 0 (omega (arith, two-last)) d
+    ∙ ap (λ (es : List Entry). ledger before es 1 0) (says-completed .says) ∙ first-1 0
+
+-- each ending is told: unused, at the place behind the last whole entry
 pub unused-roomy : (endingOf roomy ≡ Unused) × (endOf roomy ≡ 32 + sizesOf whole)
 unused-roomy = (ending-is roomy-behind encodable, end-is roomy-behind encodable)
 

@@ -7,6 +7,7 @@ pub mod Example
 pub mod ShutOut
 pub mod Tail
 pub mod ExactEnd
+pub mod TwoRuns
 pub mod ThreeRuns
-pub mod FileLength
+pub mod Lengths
 pub mod OrderExample

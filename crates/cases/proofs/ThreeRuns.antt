@@ -29,15 +29,15 @@ use Rattle.history.proofs.Demand3.{bytes-file}
 use Rattle.history.proofs.Stores.{page-stored, page-left}
 use Rattle.history.proofs.Records.{table-of}
 use Rattle.history.proofs.Night.{night}
-use Rattle.cases.specs.Build.{begins, magic, page}
+use Rattle.cases.specs.Build.{magic, page}
 use Rattle.cases.specs.Starred.{a, b, c, noRecord}
-use Rattle.cases.specs.Example.{whole, all, log, torn, stood}
+use Rattle.cases.specs.Example.{change, whole, all, torn, stood}
 use Rattle.cases.specs.ThreeRuns.{first, second, last, halfway}
 use Rattle.cases.proofs.Parts.{bytes-log}
 use Rattle.cases.proofs.Area.{area-bytes}
 use Rattle.cases.proofs.Pages.{refusal}
 use Rattle.cases.proofs.Behind.{Behind, header-is, entries-is, end-is, ending-is}
-use Rattle.cases.proofs.Example.{example, encodable, all-encodable, stood-ok, two, says, computes, ok, ok-completed}
+use Rattle.cases.proofs.Example.{example, bytes-example, encodable, all-encodable, stood-ok, two, says, computes, ok, ok-completed}
 use Rattle.cases.proofs.ShutOut.{stores-the-winner, mends-later-pages}
 
 rising : Rising example (first ∷ second ∷ []) last
@@ -46,10 +46,6 @@ rising = (record { floors = refl; records = refl; cuts = lit≤ tt; files = lit�
 
 bytes-stood : Bytes stood
 bytes-stood = area-bytes (page 7 (c ∷ []) ∷ page 5 (a ∷ []) ∷ []) stood-ok
-
-bytes-example : Bytes (example .log)
-unfolding example
-bytes-example = bytes-log all all-encodable
 
 -- ---- the first run, stopped after page 0
 
@@ -81,7 +77,7 @@ half-way = (
 
 -- ---- the second run, refused
 
-second-behind : Behind (fileFor example second) whole (take 20 (encoded (begins 9 10)) ++ replicate 27 0) Damage
+second-behind : Behind (fileFor example second) whole (take 20 (encoded change) ++ replicate 115 0) Damage
 unfolding example headerFault readAt wholeAt allZero encodedAll encoded unsealed header bytesOf numberAt numberOf
 second-behind = record { is = refl; head = refl; reads = refl; never = λ v q. not-damage q }
 

@@ -2,5 +2,6 @@ pub mod Build
 pub mod Starred
 pub mod Example
 pub mod ExactEnd
+pub mod TwoRuns
 pub mod ThreeRuns
-pub mod FileLength
+pub mod Lengths

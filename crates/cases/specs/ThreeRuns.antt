@@ -1,4 +1,4 @@
--- A night of three runs over the example history, under one floor: the first, from the torn cut, is stopped after the first of two pages; the second, from the same cut with 27 zero bytes behind
+-- A night of three runs over the example history, under one floor: the first, from the torn cut, is stopped after the first of two pages; the second, from the same cut with 115 zero bytes behind
 -- it, is refused by 4; the last is from the cut whose last entry the zeros complete.
 use Prim.Native.Nat.{ℕ, _+_}
 use mathlib.Core.List.{List, [], _∷_}
@@ -15,10 +15,10 @@ abbrev pub first : Run
 first = run (32 + sizesOf whole + 20) 0
 
 abbrev pub second : Run
-second = run (32 + sizesOf whole + 20) 27
+second = run (32 + sizesOf whole + 20) 115
 
 abbrev pub last : Run
-last = run (32 + sizesOf whole + 40) 7
+last = run (32 + sizesOf whole + 130) 7
 
 -- page 0 was stored, page 1 not yet
 abbrev pub halfway : List ℕ

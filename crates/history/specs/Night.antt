@@ -1,4 +1,4 @@
--- Any number of power failures (paper 02, W12), of the same history, moments and files as demand 3: runs in a row, each stopped anywhere or refused; page stores in any order; and
+-- Any number of power failures (paper 02, W12), over files of an honest history as in demand 3, and any pages: runs in a row, each stopped anywhere or refused; page stores in any order; and
 -- what a later table says of a transaction that an earlier one calls committed.
 use Prim.Native.Nat.{ℕ, _*_, _≤_, _<_}
 use mathlib.Core.Path.{_≡_}

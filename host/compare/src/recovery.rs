@@ -1,7 +1,9 @@
 //! Recovery: the answer, every page byte and every number of the table; the ledger of an honest history; runs that are
-//! broken off and repeated.
+//! broken off and repeated; pages that are stored in any order.
 
-use generate::{ledger, tuples_on, Case};
+use std::collections::BTreeSet;
+
+use generate::{ledger, tuples_on, whole_entries, Case, Earlier};
 use library::{Answer, RECORD_NUMBERS};
 use oracle::{Record, PAGE_BYTES};
 
@@ -51,6 +53,7 @@ pub(crate) fn compare(subject: &mut Subject, seen: &mut Seen) {
     if once.answer.number == 0 {
         repeated(subject, seen, given, &once);
         night(subject, seen, given, &once);
+        any_order(subject, seen, given, &once);
     }
 }
 
@@ -165,13 +168,33 @@ fn follows_ledger(case: &Case, seen: &mut Seen, once: &Left) {
     if honest.zeros > 0 {
         seen.event("ledger, zeros behind the cut");
     }
-    if honest.completed(once.answer.tail_offset) {
+    if honest.is_completed() {
         seen.event("ledger, an entry completed by zeros");
+    }
+    if honest.completes_felt_change() {
+        seen.event("ledger, a felt change completed by zeros");
+    }
+    if honest.cut < library::LOG_HEAD_BYTES {
+        seen.event("ledger, cut in the header");
     }
     let ledger = ledger(&honest.start_pages, &case.log);
     seen.must(tuples_on(&once.pages) == ledger, || {
         "the recovered rows are not the ledger's".to_string()
     });
+}
+
+/// What zeros did for an earlier run that was accepted, by the words for it.
+fn by_zeros(seen: &mut Seen, earlier: &Earlier, run: &Left, events: [&'static str; 3]) {
+    let [behind, completed, in_header] = events;
+    if earlier.zeros > 0 {
+        seen.event(behind);
+    }
+    if earlier.is_completed(run.answer.tail_offset) {
+        seen.event(completed);
+    }
+    if earlier.cuts_header() {
+        seen.event(in_header);
+    }
 }
 
 /// Pages of which some are taken from another run.
@@ -200,8 +223,13 @@ fn repeated(subject: &mut Subject, seen: &mut Seen, given: Given, once: &Left) {
     let first = both(subject, seen, "of the earlier cut", first_given);
     if first.answer.number != 0 {
         seen.event("earlier run refused");
-    } else if earlier.zeros > 0 {
-        seen.event("earlier run with zeros behind its cut");
+    } else {
+        let events = [
+            "earlier run with zeros behind its cut",
+            "earlier run, an entry completed by zeros",
+            "earlier run, cut in the header",
+        ];
+        by_zeros(seen, earlier, &first, events);
     }
     let left = mixture(given.pages, &first.pages, |index| earlier.mended[index]);
     if left != given.pages && left != first.pages {
@@ -266,9 +294,12 @@ fn night(subject: &mut Subject, seen: &mut Seen, given: Given, once: &Left) {
             if left != pages && left != full.pages {
                 seen.event("night, run stopped half-way");
             }
-            if earlier.zeros > 0 {
-                seen.event("night, run with zeros behind its cut");
-            }
+            let events = [
+                "night, run with zeros behind its cut",
+                "night, an entry completed by zeros",
+                "night, cut in the header",
+            ];
+            by_zeros(seen, earlier, &full, events);
         }
         pages = left;
     }
@@ -283,6 +314,47 @@ fn night(subject: &mut Subject, seen: &mut Seen, given: Given, once: &Left) {
     seen.event("night");
     if case.night.len() == 9 {
         seen.event("night of ten runs");
+    }
+}
+
+/// The pages that the run touches, stored one by one in any order, some of them and some others again, each as a run on
+/// what then stands stores it: whatever was stored, that run ends as the first, and in the end its bytes stand there.
+fn any_order(subject: &mut Subject, seen: &mut Seen, given: Given, once: &Left) {
+    let changes = whole_entries(given.log).into_iter();
+    let touched: BTreeSet<usize> = changes
+        .filter(|entry| entry.is_change())
+        .map(|entry| entry.target().0 as usize)
+        .collect();
+    if touched.len() < 2 || touched.len() > 8 || !subject.light || !subject.rng.one_in(2) {
+        return;
+    }
+    let count = given.pages.len() / PAGE_BYTES;
+    let mut order: Vec<usize> = touched.into_iter().collect();
+    for _ in 0..subject.rng.size(0, 3) {
+        order.push(subject.rng.index(count));
+    }
+    subject.rng.shuffle(&mut order);
+    let mut pages = given.pages.to_vec();
+    for &index in &order {
+        let on_stored = Given {
+            pages: &pages,
+            ..given
+        };
+        let run = by_library(subject.case.magic, on_stored, 0).0;
+        seen.must(run == *once, || {
+            format!("a run after some stores of {order:?} ends otherwise")
+        });
+        pages = mixture(&pages, &run.pages, |at| at == index);
+    }
+    seen.must(pages == once.pages, || {
+        format!("pages stored in the order {order:?} are others")
+    });
+    seen.event("pages stored one by one");
+    if !order.is_sorted() {
+        seen.event("pages stored out of their order");
+    }
+    if order.iter().collect::<BTreeSet<_>>().len() < order.len() {
+        seen.event("page stored again");
     }
 }
 

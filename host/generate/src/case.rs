@@ -49,20 +49,33 @@ pub struct Honest {
     pub zeros: usize,
     /// Where the last change that any page has felt ends in the whole log.
     pub felt_end: usize,
+    /// Where the whole entries end that are found in the case's log.
+    pub found_end: usize,
 }
 
 impl Honest {
-    /// Whether the cut has every change that the pages have felt, so that the
-    /// mended pages must be as the ledger says.
+    /// Whether the case's log, with the zeros, has every change that the pages
+    /// have felt, so that the mended pages must be as the ledger says.
     pub fn has_felt_changes(&self) -> bool {
-        self.cut >= self.felt_end
+        self.found_end >= self.felt_end
     }
 
-    /// Whether the last entry, which ends at a place, has taken its last bytes
-    /// from the zeros.
-    pub fn completed(&self, end: u64) -> bool {
-        end > self.cut as u64
+    /// Whether the last entry has taken its last bytes from the zeros.
+    pub fn is_completed(&self) -> bool {
+        reaches_into_zeros(self.found_end, self.cut)
     }
+
+    /// Whether it is a change that a page has felt, so that without the zeros
+    /// one would be missing.
+    pub fn completes_felt_change(&self) -> bool {
+        self.has_felt_changes() && reaches_into_zeros(self.felt_end, self.cut)
+    }
+}
+
+/// Whether an entry that ends at a place has bytes behind a cut. The header is
+/// no entry.
+fn reaches_into_zeros(end: usize, cut: usize) -> bool {
+    end > cut.max(LOG_HEADER_BYTES)
 }
 
 #[derive(Clone, Debug)]
@@ -82,6 +95,16 @@ impl Earlier {
         let mut log = later[..self.cut].to_vec();
         log.resize(self.cut + self.zeros, 0);
         log
+    }
+
+    /// Whether its last entry, which ended at a place, took bytes from its zeros.
+    pub fn is_completed(&self, end: u64) -> bool {
+        reaches_into_zeros(end as usize, self.cut)
+    }
+
+    /// Whether its cut left less than the file header.
+    pub fn cuts_header(&self) -> bool {
+        self.cut < LOG_HEADER_BYTES
     }
 }
 
@@ -116,20 +139,35 @@ pub fn case(seed: u64) -> Case {
 }
 
 /// Pages at moments of an honest history and a cut of its log, in half of the
-/// cases with zeros behind it; in four of five the cut has every change that the
-/// pages have felt.
+/// cases with zeros behind it; in most the file has every change that the pages
+/// have felt, in some of them because the zeros complete the last.
 fn honest(rng: &mut Rng, seed: u64) -> Case {
     let style = Style::any(rng);
     let strays = rng.one_in(5);
     let history = History::random(rng, style, strays);
     let moments = history.at_moments(rng);
-    let (kind, cut) = if rng.one_in(5) {
-        ("honest, any cut", history.any_cut(rng))
-    } else {
-        ("honest", history.cut_from(rng, moments.felt_end))
+    // How many bytes are missing that zeros may stand for.
+    let (kind, cut, missing) = match rng.below(20) {
+        0 => {
+            let missing = rng.size(1, LOG_HEADER_BYTES);
+            let cut = LOG_HEADER_BYTES - missing;
+            ("honest, cut in the header", cut, missing)
+        }
+        1..=4 => ("honest, any cut", history.any_cut(rng), 0),
+        5 | 6 => {
+            let missing = rng.size(1, 3);
+            let cut = moments.felt_end - missing;
+            ("honest, felt change cut short", cut, missing)
+        }
+        _ => ("honest", history.cut_from(rng, moments.felt_end), 0),
     };
-    let zeros = if rng.one_in(2) { 0 } else { some_zeros(rng) };
+    let zeros = match rng.below(4) {
+        0 => rng.size(0, missing),
+        1 => missing,
+        _ => missing + some_zeros(rng),
+    };
     let draft = Draft::from_parts(rng, &history, moments.pages, cut, zeros);
+    let found_end = draft.offset(draft.pieces.len()) as usize;
     let mut case = finish(rng, seed, kind, draft);
     case.honest = Some(Honest {
         start_pages: history.start_pages,
@@ -137,6 +175,7 @@ fn honest(rng: &mut Rng, seed: u64) -> Case {
         cut,
         zeros,
         felt_end: moments.felt_end,
+        found_end,
     });
     with_earlier_run(rng, case)
 }
@@ -154,13 +193,15 @@ fn some_zeros(rng: &mut Rng) -> usize {
 /// with zeros behind it where its file is not longer.
 fn with_earlier_run(rng: &mut Rng, case: Case) -> Case {
     let whole = case.log.len();
-    let cut = match rng.below(4) {
-        0 => whole,
+    let header = LOG_HEADER_BYTES.min(whole);
+    let cut = match rng.below(8) {
+        0 | 1 => whole,
         // Near the end of an entry, so that zeros may complete it.
-        1 => end_of_some_entry(rng, &case.log)
+        2 | 3 => end_of_some_entry(rng, &case.log)
             .saturating_sub(rng.size(0, 4))
-            .max(32),
-        _ => rng.size(32, whole),
+            .clamp(header, whole),
+        4 => rng.size(0, header),
+        _ => rng.size(header, whole),
     };
     let zeros = match rng.below(3) {
         0 => 0,
@@ -200,10 +241,13 @@ fn some_pages(rng: &mut Rng, case: &Case) -> Vec<bool> {
 /// it, in its cut or in its file with the zeros; the case's own is the last.
 fn night(rng: &mut Rng, case: &Case) -> Vec<Earlier> {
     let whole = case.log.len();
-    let (mut cut, mut length) = (LOG_HEADER_BYTES, LOG_HEADER_BYTES);
+    let header = LOG_HEADER_BYTES.min(whole);
+    let mut cut = if rng.one_in(4) { 0 } else { header };
+    let mut length = cut;
     let mut runs = Vec::new();
     for later in (1..=rng.size(1, 9)).rev() {
         cut = match rng.below(4) {
+            0 if cut < header => rng.size(cut, header),
             0 => cut,
             // Near the end of an entry, so that zeros may complete it.
             1 => end_of_some_entry(rng, &case.log)

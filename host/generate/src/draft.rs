@@ -3,7 +3,7 @@
 
 use std::collections::BTreeSet;
 
-use crate::entry::{seal_entry, Entry, BEGIN, COMMIT, ROLLBACK};
+use crate::entry::{seal_entry, Entry, BEGIN, COMMIT, LOG_HEADER_BYTES, ROLLBACK};
 use crate::history::History;
 use crate::ledger::whole_entries;
 use crate::page::{get_u64, page_type, put_u64, DATA, PAGE_BYTES};
@@ -88,8 +88,11 @@ impl Draft {
         Draft {
             magic: history.magic,
             floor: history.floor,
-            header: history.header.clone(),
-            tail: log[history.offsets[entries.len()]..].to_vec(),
+            header: log[..LOG_HEADER_BYTES.min(log.len())].to_vec(),
+            tail: log
+                .get(history.offsets[entries.len()]..)
+                .unwrap_or_default()
+                .to_vec(),
             pieces: entries.iter().map(Entry::encode).collect(),
             records: begins + rng.size(0, 2),
             page: rng.below(page_count as u64 + 1),

@@ -26,7 +26,7 @@ pub fn tuples_on(pages: &[u8]) -> Ledger {
 /// behind the cut, in order.
 pub fn whole_entries(log: &[u8]) -> Vec<Entry> {
     let mut entries = Vec::new();
-    let mut rest = &log[LOG_HEADER_BYTES..];
+    let mut rest = log.get(LOG_HEADER_BYTES..).unwrap_or_default();
     while rest.len() >= 4 {
         let length = u32::from_le_bytes(rest[..4].try_into().expect("length")) as usize;
         if length < 43 || length > rest.len() || !is_sealed(&rest[..length]) {

@@ -1,7 +1,8 @@
-//! The proved library against the second program: random histories and damaged inputs, the sizes at the limits, the
-//! stack that the library may use, and its header.
+//! The proved library against the second program: random histories and damaged inputs, cuts with zeros behind them, the
+//! sizes at the limits, the stack that the library may use, and its header.
 
 mod caller;
+mod cuts;
 mod header;
 mod limits;
 mod maps;

@@ -138,6 +138,8 @@ fn honest_histories_end_as_their_ledgers_say() {
             ("ledger", 3_000),
             ("ledger, zeros behind the cut", 1_000),
             ("ledger, an entry completed by zeros", 100),
+            ("ledger, a felt change completed by zeros", 100),
+            ("ledger, cut in the header", 100),
             ("log that ends exactly", 2_000),
             ("log that ends torn", 1_000),
             ("log that ends unused", 1_000),
@@ -145,6 +147,8 @@ fn honest_histories_end_as_their_ledgers_say() {
             ("mixture of old and mended pages", 500),
             ("earlier run refused", 100),
             ("earlier run with zeros behind its cut", 500),
+            ("earlier run, an entry completed by zeros", 100),
+            ("earlier run, cut in the header", 100),
         ],
     );
 }
@@ -162,7 +166,24 @@ fn nights_end_as_their_last_run_alone() {
             ("night, run refused", 1_000),
             ("night, run stopped half-way", 200),
             ("night, run with zeros behind its cut", 1_000),
+            ("night, an entry completed by zeros", 200),
+            ("night, cut in the header", 100),
             ("night, committed record kept", 1_000),
+        ],
+    );
+}
+
+/// The pages that a run touches, stored in any order, some of them again, end as the run leaves them.
+#[test]
+fn pages_are_mended_in_any_order() {
+    let seen = seen();
+    assert_no_differences(seen);
+    assert_often(
+        seen,
+        &[
+            ("pages stored one by one", 500),
+            ("pages stored out of their order", 300),
+            ("page stored again", 300),
         ],
     );
 }

@@ -13,7 +13,8 @@ fn honest_cases(seeds: u64) -> impl Iterator<Item = Case> {
 #[test]
 fn accepted_recovery_gives_the_ledger() {
     let (mut compared, mut tuples, mut overfull, mut stray) = (0, 0, 0, 0);
-    let (mut spoiled, mut unused, mut completed) = (0, 0, 0);
+    let (mut spoiled, mut unused, mut completed, mut felt) = (0, 0, 0, 0);
+    let (mut headless, mut in_header) = (0, 0);
     for case in honest_cases(9_000) {
         let honest = case.honest.as_ref().unwrap();
         let outcome = run(&case);
@@ -24,6 +25,8 @@ fn accepted_recovery_gives_the_ledger() {
             continue;
         }
         match outcome.answer.number {
+            // A cut inside mark or version, with zeros behind it.
+            3 => headless += u64::from(honest.cut < 5),
             // A cut inside an entry, with zeros behind it.
             4 => spoiled += u64::from(honest.zeros > 0),
             13 => stray += 1,
@@ -40,13 +43,17 @@ fn accepted_recovery_gives_the_ledger() {
                 compared += 1;
                 tuples += ledger.len();
                 unused += u64::from(answer.ending == 2);
-                completed += u64::from(honest.completed(answer.tail_offset));
+                completed += u64::from(honest.is_completed());
+                felt += u64::from(honest.completes_felt_change());
+                in_header += u64::from(honest.cut < 32);
             }
         }
     }
     println!("compared {compared} with {tuples} tuples, 13: {stray}, 14: {overfull}");
-    println!("4: {spoiled}, unused: {unused}, completed by zeros: {completed}");
-    assert!(spoiled > 50 && unused > 300 && completed > 30);
+    println!("4: {spoiled}, unused: {unused}, completed by zeros: {completed}, felt: {felt}");
+    println!("3: {headless}, cut in the header: {in_header}");
+    assert!(spoiled > 50 && unused > 300 && completed > 30 && felt > 30);
+    assert!(headless > 5 && in_header > 30);
     assert!(compared > 2_000 && tuples > 15_000);
     assert!(stray > 20 && overfull > 50);
 }
@@ -64,7 +71,8 @@ fn mixture(old: &[u8], new: &[u8], mended: impl Fn(usize) -> bool) -> Vec<u8> {
 #[test]
 fn repeated_runs_end_in_the_same_bytes() {
     let (mut compared, mut mixed, mut refused_first, mut zeros) = (0, 0, 0, 0);
-    for case in small_cases(5_500) {
+    let (mut completed, mut in_header) = (0, 0);
+    for case in small_cases(6_500) {
         let Some(earlier) = &case.earlier else {
             continue;
         };
@@ -73,7 +81,11 @@ fn repeated_runs_end_in_the_same_bytes() {
             continue;
         }
         let first = run_on(&case, earlier.floor, &case.pages, &earlier.log(&case.log));
-        zeros += u64::from(first.answer.number == 0 && earlier.zeros > 0);
+        if first.answer.number == 0 {
+            zeros += u64::from(earlier.zeros > 0);
+            completed += u64::from(earlier.is_completed(first.answer.tail_offset));
+            in_header += u64::from(earlier.cuts_header());
+        }
         refused_first += u64::from(first.answer.number != 0);
         let left = mixture(&case.pages, &first.pages, |index| earlier.mended[index]);
         mixed += u64::from(left != case.pages && left != first.pages);
@@ -88,8 +100,10 @@ fn repeated_runs_end_in_the_same_bytes() {
         compared += 1;
     }
     println!("compared {compared}, real mixtures {mixed}, first run refused {refused_first}");
-    println!("first run accepted with zeros {zeros}");
+    println!("first run accepted with zeros {zeros}, completed by them {completed}");
+    println!("first run accepted though cut in the header {in_header}");
     assert!(compared > 1_500 && mixed > 200 && refused_first > 50 && zeros > 100);
+    assert!(completed > 30 && in_header > 20);
 }
 
 /// Up to ten runs, each on what the one before it left: the last ends as it would have alone, and a record that says
@@ -97,6 +111,7 @@ fn repeated_runs_end_in_the_same_bytes() {
 #[test]
 fn nights_end_as_the_last_run_alone() {
     let (mut nights, mut ten, mut refused, mut stopped, mut zeros, mut kept) = (0, 0, 0, 0, 0, 0);
+    let (mut completed, mut in_header) = (0, 0);
     for case in small_cases(9_000) {
         let once = run(&case);
         if once.answer.number != 0 || case.night.is_empty() {
@@ -117,6 +132,8 @@ fn nights_end_as_the_last_run_alone() {
             } else {
                 stopped += u64::from(left != pages && left != full.pages);
                 zeros += u64::from(earlier.zeros > 0);
+                completed += u64::from(earlier.is_completed(full.answer.tail_offset));
+                in_header += u64::from(earlier.cuts_header());
                 for (record, later) in full.table.iter().zip(&once.table) {
                     if *record != MARK && record.outcome == 1 {
                         assert_eq!(record, later, "seed {}", case.seed);
@@ -133,8 +150,9 @@ fn nights_end_as_the_last_run_alone() {
     }
     println!("nights {nights}, of ten runs {ten}, runs refused {refused}, stopped {stopped}");
     println!("accepted with zeros {zeros}, committed records kept {kept}");
+    println!("completed by zeros {completed}, accepted though cut in the header {in_header}");
     assert!(nights > 500 && ten > 50 && refused > 500 && stopped > 100);
-    assert!(zeros > 500 && kept > 500);
+    assert!(zeros > 500 && kept > 500 && completed > 50 && in_header > 20);
 }
 
 #[test]

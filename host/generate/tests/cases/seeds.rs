@@ -51,5 +51,5 @@ fn the_first_cases_stay_the_same() {
     let all: Vec<u8> = (0..300)
         .flat_map(|seed| fingerprint(&case(seed)).to_le_bytes())
         .collect();
-    assert_eq!(crc32c(&all), 436_205_770);
+    assert_eq!(crc32c(&all), 2_805_176_100);
 }

@@ -4,12 +4,14 @@
 use std::cell::Cell;
 use std::fs::{self, File, OpenOptions};
 use std::io::Write;
+use std::os::unix::fs::MetadataExt;
 use std::process::{Child, Command, Stdio};
 use std::thread;
 use std::time::{Duration, Instant};
 
 use generate::{plain_page, Rng, FREE};
 
+use crate::json::Value;
 use crate::place::lock;
 use crate::sandbox::{Done, Sandbox, BINARY};
 
@@ -161,13 +163,25 @@ impl Scene {
         self.time.set(self.time.get().mul_f64(factor));
     }
 
-    /// Runs on what the one before left, from logs that never get shorter, until ten of them were killed.
+    /// Until a run has replaced the pages, or ended.
+    fn wait_until_replaced(&self, child: &mut Child) {
+        let path = self.sandbox.path.join("outage.pages");
+        let file = || fs::metadata(&path).map(|found| found.ino()).ok();
+        let lent = file();
+        while file() == lent && child.try_wait().unwrap().is_none() {
+            thread::yield_now();
+        }
+    }
+
+    /// Runs on what the one before left, from logs that never get shorter, until ten of them were killed and the pages are no
+    /// longer as they were.
     fn night(&self, rng: &mut Rng, log: &[u8], tally: &mut Tally) {
         let ends = entry_ends(log);
         let (mut at, mut cut, mut length) = (0, 0, 0);
         let before = tally.killed;
         for run in 0.. {
-            if tally.killed == before + 10 {
+            let lent = self.sandbox.read("outage.pages");
+            if tally.killed >= before + 10 && lent != self.old {
                 return;
             }
             assert!(run < 500, "{tally:?}");
@@ -176,12 +190,16 @@ impl Scene {
             cut = cut.max((ends[at] + torn).min(log.len()));
             let zeros = if rng.one_in(3) { rng.size(1, 60) } else { 0 };
             length = length.max(cut + zeros);
-            let lent = self.sandbox.read("outage.pages");
             self.sandbox.write("outage.log", &file(log, cut, length));
 
             let when = self.time.get().mul_f64(rng.below(1_000) as f64 / 1_000.0);
-            let child = start(&self.sandbox, RECOVER_UNDER_FLOOR);
-            thread::sleep(when);
+            let late = rng.one_in(3);
+            let mut child = start(&self.sandbox, RECOVER_UNDER_FLOOR);
+            if late {
+                self.wait_until_replaced(&mut child);
+            } else {
+                thread::sleep(when);
+            }
             unsafe { kill(child.id() as i32, 9) };
             let done = Done::of(child.wait_with_output().unwrap());
             let left = self.sandbox.read("outage.pages");
@@ -199,7 +217,9 @@ impl Scene {
                 }
                 _ => panic!("{done:#?}"),
             }
-            self.took(&done);
+            if !late {
+                self.took(&done);
+            }
         }
     }
 
@@ -303,7 +323,19 @@ fn requests_to_end_at_any_moment() {
     println!("requests to end: {tally:?}");
 }
 
-/// Ten kills in one night, among refused runs and runs that end; then the run from the longest log ends as it does alone.
+/// What a run answers, without what became of its pages.
+fn answer(done: Done) -> Value {
+    let Value::Object(mut fields) = done.json() else {
+        panic!("no object");
+    };
+    for name in ["result", "written_to", "backup"] {
+        fields.remove(name).unwrap();
+    }
+    Value::Object(fields)
+}
+
+/// Ten kills in one night, among refused runs and runs that end, of which some have changed the pages; then the run from the
+/// longest log ends as it does alone, with the same answer.
 #[test]
 fn ten_kills_in_one_night() {
     let scene = Scene::new();
@@ -320,25 +352,26 @@ fn ten_kills_in_one_night() {
     let last = file(&log, log.len(), log.len() + 100);
     let recovered = || {
         sandbox.write("outage.log", &last);
-        sandbox.say(RECOVER_UNDER_FLOOR).ends(0);
-        sandbox.read("outage.pages")
+        let done = sandbox
+            .say(&format!("{RECOVER_UNDER_FLOOR} --json"))
+            .ends(0);
+        (answer(done), sandbox.read("outage.pages"))
     };
     reset(sandbox, &scene.old);
     let alone = recovered();
-    assert!(alone != scene.old);
+    assert_eq!(alone.0.text("ending"), "unused");
+    assert!(alone.0.number("pages_rewritten") > 0 && alone.1 != scene.old);
 
     let mut rng = Rng::new(19);
     let mut tally = Tally::default();
-    while tally.killed < kills() {
+    // Until a run was refused, and a killed run too has left other pages than it was lent.
+    while tally.killed < kills() || tally.failed == 0 || tally.replaced == 0 {
+        assert!(tally.killed < 20 * kills(), "{tally:?}");
         reset(sandbox, &scene.old);
         scene.night(&mut rng, &log, &mut tally);
         assert!(recovered() == alone, "{tally:?}");
     }
     println!("nights: {tally:?}");
-    assert!(
-        tally.failed > 0 && tally.done + tally.replaced > 0,
-        "{tally:?}"
-    );
 }
 
 /// On a small file system of our own that another process fills, where the machine lets us make one.
