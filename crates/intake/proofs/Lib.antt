@@ -4,12 +4,12 @@ pub mod Sorting
 pub mod Halves
 pub mod OrderRows
 pub mod Walking
-pub mod Searching
 pub mod Ranking
 pub mod Scanning
 pub mod Filling
 pub mod Pairing
 pub mod Marks
 pub mod Findings
+pub mod Searching
 pub mod Repeats
 pub mod Recovered

@@ -1,17 +1,16 @@
 // The search for a mark: page by page, each verified and then gone over while it is at hand, over all rows wherever the order stands.
 ghost use mathlib.Core.Bool.{false};
 ghost use mathlib.Core.Path.{_≡_};
-ghost use Prim.Native.Nat.{ℕ, _+_, _*_, _-_, _^_, _<_, _≤_};
+ghost use Prim.Native.Nat.{_+_, _<_};
 ghost use lib.ListN.{length};
-ghost use Rattle.endian.specs.Numbers.{part};
 ghost use Rattle.crc32c.specs.Tables.{Tables};
 ghost use Rattle.page.specs.Layout.{pageBytes, dataType, typeOf, countOf, bodyOf, slotOff, slotLen, slotAt};
 ghost use Rattle.page.specs.Good.{DataGood};
 ghost use Rattle.page.specs.Fault.{sizeWrong};
 ghost use Rattle.page.specs.Rows.{visible};
-ghost use Rattle.intake.specs.Orders.{orderFound, refusedOrder};
+ghost use Rattle.intake.specs.Orders.{orderFound};
 ghost use Rattle.intake.specs.Places.{wide};
-ghost use Rattle.intake.specs.Search.{withPayload, withTuple, withSlots, withPage};
+ghost use Rattle.intake.specs.Search.{isShort, shortSlots, isMarked, firstSlot, slotsFound, both, withPage};
 use crate::FoundOrder;
 use crate::no_order;
 use crate::orders::TUPLE_BYTES;
@@ -49,87 +48,112 @@ fn is_visible(page: &[u8], k: usize, o: usize) -> bool
     u64_at(page, XMAX_AT + o) == 0
 }
 
-// What is known after the payload of a visible row in slot k of the page at an index, whose tuple of n bytes starts at a place of the page.
-fn met(
-    page: &[u8],
-    index: usize,
-    k: usize,
-    at: usize,
-    n: usize,
-    low: u64,
-    high: u64,
-    known: FoundOrder,
-) -> FoundOrder
-    requires { ⌜ (at + n ≤ length (now page)) × (24 ≤ n) ⌝ }
-    requires { ⌜ known .short + 1 < 18446744073709551616 ⌝ }
-    ensures { λ r. ⌜ r ≡ withPayload (wide low high) index k (part (at + 24) (n - 24) (now (page .entry))) known ⌝ }
-{
-    if n < TUPLE_BYTES {
-        let v = known.verdict;
-        let o = known.order;
-        return FoundOrder {
-            verdict: v,
-            found: known.found,
-            order: o,
-            short: known.short + 1,
-        };
-    }
-    if known.found {
-        return known;
-    }
-    if has_mark(page, at, low, high) {
-        let v = known.verdict;
-        return FoundOrder {
-            verdict: v,
-            found: true,
-            order: order_at(page, PageNumber(index as u64), k, at),
-            short: known.short,
-        };
-    }
-    known
-}
-
-// What is known after slot k.
-fn met_slot(
-    page: &[u8],
-    index: usize,
-    k: usize,
-    low: u64,
-    high: u64,
-    known: FoundOrder,
-) -> FoundOrder
+// Whether slot k holds a visible payload that is too short for an order.
+fn is_short(page: &[u8], k: usize) -> bool
     requires { ⌜ length (now page) ≡ pageBytes ⌝ }
     requires { ⌜ DataGood (now page) ⌝ }
     requires { ⌜ k < countOf (now page) ⌝ }
-    requires { ⌜ known .short + 1 < 18446744073709551616 ⌝ }
-    ensures { λ r. ⌜ r ≡ withTuple (wide low high) index k (slotAt (now (page .entry)) k) known ⌝ }
+    ensures { λ r. ⌜ r ≡ isShort (slotAt (now (page .entry)) k) ⌝ }
 {
     let n = slot_len(page, k);
+    if TUPLE_BYTES <= n {
+        return false;
+    }
     if n == 0 {
-        return known;
+        return false;
     }
-    let o = slot_off(page, k);
-    if is_visible(page, k, o) {
-        return met(page, index, k, HEAD_BYTES + o, n, low, high, known);
-    }
-    known
+    is_visible(page, k, slot_off(page, k))
 }
 
-// What is known after all slots of a Data page.
+// How many slots of a Data page do.
+fn short_slots(page: &[u8]) -> usize
+    requires { ⌜ length (now page) ≡ pageBytes ⌝ }
+    requires { ⌜ DataGood (now page) ⌝ }
+    ensures { λ r. ⌜ (r ≡ shortSlots (now (page .entry)) (countOf (now (page .entry))) 0) × (r < 65536) ⌝ }
+{
+    let n = count(page);
+    let mut short: usize = 0;
+    let mut k: usize = 0;
+    while k < n {
+        if is_short(page, k) {
+            short += 1;
+            k += 1;
+            continue;
+        }
+        k += 1;
+    }
+    short
+}
+
+// Whether slot k holds a visible order with the mark of these halves.
+fn is_marked(page: &[u8], k: usize, low: u64, high: u64) -> bool
+    requires { ⌜ length (now page) ≡ pageBytes ⌝ }
+    requires { ⌜ DataGood (now page) ⌝ }
+    requires { ⌜ k < countOf (now page) ⌝ }
+    ensures { λ r. ⌜ r ≡ isMarked (wide low high) (slotAt (now (page .entry)) k) ⌝ }
+{
+    let n = slot_len(page, k);
+    if n < TUPLE_BYTES {
+        return false;
+    }
+    let o = slot_off(page, k);
+    if has_mark(page, HEAD_BYTES + o, low, high) {
+        return is_visible(page, k, o);
+    }
+    false
+}
+
+// The first slot of a Data page that does, or the item count where none does.
+fn first_slot(page: &[u8], low: u64, high: u64) -> usize
+    requires { ⌜ length (now page) ≡ pageBytes ⌝ }
+    requires { ⌜ DataGood (now page) ⌝ }
+    ensures { λ r. ⌜ r ≡ firstSlot (wide low high) (now (page .entry)) (countOf (now (page .entry))) 0 ⌝ }
+{
+    let n = count(page);
+    let mut k: usize = 0;
+    while k < n {
+        if is_marked(page, k, low, high) {
+            return k;
+        }
+        k += 1;
+    }
+    k
+}
+
+// What is known after all slots of a Data page: its short payloads are counted, and its first order with the mark is looked for where none is known yet.
 fn met_slots(page: &[u8], index: usize, low: u64, high: u64, known: FoundOrder) -> FoundOrder
     requires { ⌜ length (now page) ≡ pageBytes ⌝ }
     requires { ⌜ DataGood (now page) ⌝ }
     requires { ⌜ known .short + 65536 < 18446744073709551616 ⌝ }
-    ensures { λ r. ⌜ r ≡ withSlots (wide low high) index (now (page .entry)) (countOf (now (page .entry))) 0 known ⌝ }
+    ensures { λ r. ⌜ r ≡ both known (slotsFound (wide low high) index (now (page .entry)) (countOf (now (page .entry)))) ⌝ }
 {
-    let n = count(page);
-    let mut found = known;
-    let mut k: usize = 0;
-    while k < n {
-        found = met_slot(page, index, k, low, high, found);
-        k += 1;
+    let v = known.verdict;
+    let short = known.short + short_slots(page);
+    if known.found {
+        let o = known.order;
+        return FoundOrder {
+            verdict: v,
+            found: true,
+            order: o,
+            short: short,
+        };
     }
-    found
+    let k = first_slot(page, low, high);
+    if k < count(page) {
+        let at = HEAD_BYTES + slot_off(page, k);
+        return FoundOrder {
+            verdict: v,
+            found: true,
+            order: order_at(page, PageNumber(index as u64), k, at),
+            short: short,
+        };
+    }
+    FoundOrder {
+        verdict: v,
+        found: false,
+        order: no_order(),
+        short: short,
+    }
 }
 
 // What is known after a page.

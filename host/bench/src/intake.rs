@@ -1,5 +1,6 @@
-//! Orders on 4,096 full pages: the search for a mark beside one verification, and the search for repeated marks on distinct
-//! ones, on equal ones, on ones that share their first 15 bytes, and on ones that are hard to tell apart.
+//! Orders on 4,096 full pages: the search for a mark beside one verification, on distinct ones, on cancelled orders that all
+//! have it and on short payloads; and the search for repeated marks on distinct ones, on equal ones, on ones that share their
+//! first 15 bytes, and on ones that are hard to tell apart.
 use bench::best;
 use generate::{live_tuple, DataPage, Slots};
 use std::hint::black_box;
@@ -7,8 +8,9 @@ use std::hint::black_box;
 const MAGIC: u64 = 0x4C75_6D62_7261_7175;
 const PAGES: u64 = 4_096;
 
-/// The orders of a full page: 48 bytes and a slot of 4 each.
+/// The orders of a full page, of 48 bytes and a slot of 4 each, and the rows without a payload.
 const ORDERS: u64 = 16_320 / 52;
+const EMPTY: u64 = 16_320 / 28;
 
 /// What the search for a mark should stay under, in terms of a verification, and the search for repeated marks, in seconds: on
 /// distinct marks, and on any.
@@ -18,20 +20,27 @@ const ANY_BOUND: f64 = 60.0;
 
 type Mark = [u8; 16];
 
-/// Full pages of orders, with the mark of each by its number.
-fn area(mark: impl Fn(u64) -> Mark) -> Vec<u8> {
+/// Pages with so many rows each, and the tuple of each by its number.
+fn filled(rows: u64, tuple: impl Fn(u64) -> Vec<u8>) -> Vec<u8> {
     let mut pages = Vec::new();
     for id in 0..PAGES {
-        let slots: Slots = (0..ORDERS)
-            .map(|slot| {
-                let mut payload = mark(id * ORDERS + slot).to_vec();
-                payload.extend([slot as u8; 8]);
-                (slot as u16, live_tuple(1, &payload))
-            })
+        let slots: Slots = (0..rows)
+            .map(|slot| (slot as u16, tuple(id * rows + slot)))
             .collect();
         pages.extend(DataPage::plain(MAGIC, id, 0, slots).packed());
     }
     pages
+}
+
+fn order(mark: Mark) -> Vec<u8> {
+    let mut payload = mark.to_vec();
+    payload.extend([7; 8]);
+    live_tuple(1, &payload)
+}
+
+/// Full pages of orders, with the mark of each by its number.
+fn area(mark: impl Fn(u64) -> Mark) -> Vec<u8> {
+    filled(ORDERS, |n| order(mark(n)))
 }
 
 /// Two halves of a mark.
@@ -59,27 +68,39 @@ fn verdict(time: f64, bound: f64) -> &'static str {
     }
 }
 
-fn finding() {
-    let pages = area(distinct);
-    let v = best(5, || library::verify(MAGIC, black_box(&pages)).number);
-    let absent = [0xFF; 16];
+fn absent(name: &str, rows: u64, pages: &[u8], mark: &Mark) {
+    assert_eq!(library::find_order(MAGIC, pages, mark).found, 0, "{name}");
+    let v = best(5, || library::verify(MAGIC, black_box(pages)).number);
     let f = best(5, || {
-        library::find_order(MAGIC, black_box(&pages), &absent).found
+        library::find_order(MAGIC, black_box(pages), mark).found
     });
-    assert_eq!(library::find_order(MAGIC, &pages, &absent).found, 0);
-    let last = library::find_order(MAGIC, &pages, &distinct(PAGES * ORDERS - 1));
-    assert_eq!(
-        (last.found, last.page, last.slot),
-        (1, PAGES - 1, ORDERS - 1)
-    );
     println!(
-        "search for a mark among {} orders: {:.2} ms, one verification {:.2} ms: {:.2} times, at most {FIND_BOUND}: {}",
-        PAGES * ORDERS,
+        "search for a mark among {rows} {name}: {:.2} ms, one verification {:.2} ms: {:.2} times, at most {FIND_BOUND}: {}",
         f * 1e3,
         v * 1e3,
         f / v,
         verdict(f / v, FIND_BOUND)
     );
+}
+
+fn finding() {
+    let all = PAGES * ORDERS;
+    let pages = area(distinct);
+    let last = library::find_order(MAGIC, &pages, &distinct(all - 1));
+    assert_eq!(
+        (last.found, last.page, last.slot),
+        (1, PAGES - 1, ORDERS - 1)
+    );
+    let mark = [0xFF; 16];
+    absent("orders", all, &pages, &mark);
+    let cancelled = filled(ORDERS, |_| {
+        let mut tuple = order(mark);
+        tuple[16] = 1;
+        tuple
+    });
+    absent("cancelled orders that have it", all, &cancelled, &mark);
+    let empty = filled(EMPTY, |_| live_tuple(1, &[]));
+    absent("rows without a payload", PAGES * EMPTY, &empty, &mark);
 }
 
 fn repeated(name: &str, bound: f64, found: bool, mark: impl Fn(u64) -> Mark) {

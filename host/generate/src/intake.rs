@@ -6,16 +6,16 @@ use crate::rng::Rng;
 /// A request mark.
 pub type Mark = [u8; 16];
 
-/// So few marks that many stand more than once; some differ in one byte alone, the first, the last or one between.
+/// So few marks that many stand more than once; some differ in one byte alone, the first or the last of either half or one
+/// between.
 pub fn mark(rng: &mut Rng) -> Mark {
     let mut mark = [0x5A; 16];
     match rng.below(8) {
         0 => mark.fill(rng.byte() % 2),
-        1 => mark[0] = rng.byte() % 4,
-        2 => mark[15] = rng.byte() % 4,
-        3 => mark[rng.index(16)] = 0xA5,
-        4 => mark.fill(0xFF),
-        _ => mark[rng.index(16)] = rng.byte() % 4,
+        1 => mark.fill(0xFF),
+        2 => mark[rng.index(16)] = 0xA5,
+        3 => mark[rng.index(16)] = rng.byte() % 4,
+        _ => mark[*rng.pick(&[0, 7, 8, 15])] = rng.byte() % 2,
     }
     mark
 }
@@ -25,6 +25,17 @@ fn own_mark(rng: &mut Rng) -> Mark {
     let mut mark = [0; 16];
     mark.copy_from_slice(&rng.bytes(16));
     mark
+}
+
+/// The mark of one of some rows, pressed again, or any.
+pub fn mark_again(rng: &mut Rng, rows: &[OrderRow]) -> Mark {
+    match rows.is_empty() || rng.one_in(2) {
+        true => mark(rng),
+        false => match rng.pick(rows).payload.first_chunk() {
+            Some(&again) => again,
+            None => mark(rng),
+        },
+    }
 }
 
 /// A payload under a mark: an order, of just 24 bytes or with more behind them, or one that is too short for one, cut at
@@ -82,7 +93,7 @@ pub fn orders(rng: &mut Rng) -> Orders {
             }
             let mark = match distinct {
                 true => own_mark(rng),
-                false => mark(rng),
+                false => mark_again(rng, &rows),
             };
             let payload = order_payload(rng, mark);
             let mut tuple = live_tuple(rng.number(), &payload);

@@ -26,7 +26,7 @@ pub use draft::{Draft, Standing};
 pub use entry::{log_header, Entry};
 pub use entry::{BEGIN, CHECKPOINT, COMMIT, DELETE, INSERT, ROLLBACK, UPDATE};
 pub use history::{History, Step};
-pub use intake::{mark, order_payload, orders, Mark, OrderRow, Orders};
+pub use intake::{mark, mark_again, order_payload, orders, Mark, OrderRow, Orders};
 pub use ledger::{ledger, tuples_on, whole_entries, Ledger};
 pub use moments::Moments;
 pub use mutate::{mutations, Aim, Mutation};

@@ -280,7 +280,7 @@ fn orders_reach_every_bound() {
             ("no mark repeated", 2_000),
             ("one mark repeated", 1_000),
             ("several marks repeated", 200),
-            ("mark on three orders", 200),
+            ("mark on three orders", 500),
             ("mark on a cancelled and a visible row", 1_000),
             ("pair on two pages", 500),
         ],

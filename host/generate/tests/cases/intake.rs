@@ -46,6 +46,6 @@ fn orders_are_good_pages_with_and_without_the_mark_and_a_pair() {
         found[find_order(own.magic, &own.pages, &mark).found as usize] += 1;
         repeated[repeated_orders(own.magic, &own.pages).found as usize] += 1;
     }
-    assert!(found.iter().all(|&times| times > 20), "{found:?}");
-    assert!(repeated.iter().all(|&times| times > 50), "{repeated:?}");
+    assert!(found.iter().all(|&times| times > 30), "{found:?}");
+    assert!(repeated.iter().all(|&times| times > 100), "{repeated:?}");
 }

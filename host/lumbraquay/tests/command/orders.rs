@@ -2,7 +2,7 @@
 
 use std::collections::BTreeMap;
 
-use generate::{live_tuple, mark, orders, plain_page, DataPage, Mark, Orders, Rng, Slots};
+use generate::{live_tuple, mark_again, orders, plain_page, DataPage, Mark, Orders, Rng, Slots};
 
 use crate::json::Value;
 use crate::sandbox::{repository, Sandbox};
@@ -134,7 +134,7 @@ fn cases() -> impl Iterator<Item = (Orders, Mark)> {
     (0..60).map(|seed| {
         let mut rng = Rng::new(seed);
         let orders = orders(&mut rng);
-        let mark = mark(&mut rng);
+        let mark = mark_again(&mut rng, &orders.rows);
         (orders, mark)
     })
 }
@@ -235,5 +235,5 @@ fn repeats_as_json() {
             .collect();
         assert_eq!(told, repeating);
     }
-    assert!(seen.iter().all(|&times| times > 5), "{seen:?}");
+    assert!(seen.iter().all(|&times| times > 10), "{seen:?}");
 }

@@ -1,41 +1,50 @@
--- The invariant: the slots from k on make of what is known what all make of what was known before.
-use mathlib.Core.Path.{_≡_, ap, _∙_}
-use Prim.Native.Nat.{ℕ, _+_, _-_, _≤_}
+use mathlib.Core.Path.{refl}
+use Prim.Native.Nat.{_<_}
 use native.Mathlib.Omega.{arith}
-use Rattle.page.specs.Layout.{slotAt}
-use Rattle.intake.specs.Places.{wide}
-use Rattle.intake.specs.Search.{withSlots}
-use Rattle.intake.proofs.Searching.{slots-start, slots-next, slots-end, short-tuple}
+use borrow.Author.Needs.{needs}
+use Rattle.page.specs.Layout.{countOf}
+use Rattle.intake.proofs.Searching.{slot-low, order-in, order-there, first-long, both-known, both-here, both-none}
 use Rattle.intake.proofs.search.met_slots.Statement.{statement}
 use Rattle.intake.proofs.search.met_slots.Tie as tie
 
-abbrev Inv-loop : tie.InvT-loop
-Inv-loop page index low high n found₀ k₀ found k =
-    (withSlots (wide low high) index page (n - k) k found ≡ withSlots (wide low high) index page n 0 found₀) × (found .short ≤ found₀ .short + k) × (k ≤ n)
+returns : tie.Need-returns
+returns c = let s = c .before .before .before .before .before .before in both-known _ (s .args .index) (s .args .page .now) _ (s .args .known) _ (c .before .before .before .short-slots .ensures .0) (c .before .if1 .taken)
 
-abbrev μ-loop : tie.MeasureT-loop
-μ-loop page index low high n found₀ k₀ found k = n - k
+slot-off-requires : tie.Need-slot-off-requires
+slot-off-requires c κs = let s = c .before .before .before .before .before .before .before .before in (s .pre .0, slot-low _ (s .pre .1 .0) _ (omega (arith, c .if2 .taken, c .before .count .ensures .0)))
 
-met-slot-requires : tie.Need-met-slot-requires Inv-loop μ-loop
-met-slot-requires c κs =
-    let s = c .before .before .before .before in
-    let l = c .before .loop in
-    (s .pre .0, (s .pre .1 .0, (omega (arith, c .loop-test .taken, c .before .before .count .ensures .0), omega (arith, l .inv .1, s .pre .1 .1, c .loop-test .taken, c .before .before .count .ensures .1))))
+order-at-requires : tie.Need-order-at-requires
+order-at-requires c κs =
+    let s = c .before .before .before .before .before .before .before .before .before in
+    let k = c .before .before .before .first-slot in
+    let l : k .result < countOf (s .args .page .now) = omega (arith, c .before .if2 .taken, c .before .before .count .ensures .0) in
+    order-in _ (s .pre .0) (s .pre .1 .0) _ l _ refl (first-long _ 0 _ _ (s .args .known) (s .pre .0) (s .pre .1 .0) refl _ (k .ensures) l) _ (c .slot-off .ensures .0)
 
-loop-again : tie.Need-loop-again Inv-loop μ-loop
-loop-again c =
-    let a = c .before .before .before .before .before .args in
-    let l = c .before .before .loop in
-    rw (c .met-slot .ensures)
-    (slots-next _ _ _ _ (l .k) (l .found) (c .before .loop-test .taken) ∙ l .inv .0, omega (arith, l .inv .1, short-tuple (wide (a .low) (a .high)) (a .index) (l .k) (slotAt (a .page .now) (l .k)) (l .found)), omega (arith, c .before .loop-test .taken))
+returns-2 : tie.Need-returns-2
+returns-2 c =
+    let s = c .before .before .before .before .before .before .before .before .before .before in
+    let k = c .before .before .before .before .first-slot in
+    let l : k .result < countOf (s .args .page .now) = omega (arith, c .before .before .if2 .taken, c .before .before .before .count .ensures .0) in
+    both-here _ (s .args .index) (s .args .page .now) _ (s .args .known) _ (c .before .before .before .before .before .before .before .short-slots .ensures .0) (c .before .before .before .before .before .if1 .left) _ (k .ensures) l _
+    (order-there _ (s .pre .0) (s .pre .1 .0) _ l _ refl (first-long _ 0 _ _ (s .args .known) (s .pre .0) (s .pre .1 .0) refl _ (k .ensures) l) _ (c .before .slot-off .ensures .0) _ _ (c .order-at .ensures))
 
-returns : tie.Need-returns Inv-loop μ-loop
-returns c =
-    let l = c .before .loop in
-    let a = c .before .before .before .before .args in
-    slots-end _ _ _ _ (l .k) (l .found) (c .loop-test .left) ∙ l .inv .0 ∙ ap (λ (m : ℕ). withSlots (wide (a .low) (a .high)) (a .index) (a .page .now) m 0 (a .known)) (c .before .before .count .ensures .0)
+returns-3 : tie.Need-returns-3
+returns-3 c =
+    let s = c .before .before .before .before .before .before .before .before .before in
+    both-none _ (s .args .index) (s .args .page .now) _ (s .args .known) _ (c .before .before .before .before .before .before .short-slots .ensures .0) (c .before .before .before .before .if1 .left) _ (c .before .before .before .first-slot .ensures) (omega (arith, c .before .if2 .left, c .before .before .count .ensures .0)) _ (c .no-order .ensures)
 
 pub met-slots-spec : {M : Type 1} → statement M
 met-slots-spec =
     tie.close
-    (tie.spec Inv-loop μ-loop (λ c κs. c .before .pre .0) (λ c. (slots-start _ _ _ _ _, omega arith, omega arith)) met-slot-requires (λ c. omega (arith, c .before .loop-test .taken)) (λ c. omega (arith, c .before .loop-test .taken)) loop-again returns)
+    (tie.spec
+    (λ c κs. (c .before .before .pre .0, c .before .before .pre .1 .0))
+    (λ c. omega (arith, c .before .short-slots .ensures .1, c .before .before .before .before .pre .1 .1))
+    returns
+    (λ c κs. (c .before .before .before .before .before .pre .0, c .before .before .before .before .before .pre .1 .0))
+    (λ c κs. c .before .before .before .before .before .before .pre .0)
+    slot-off-requires
+    (λ c. omega (arith, c .slot-off .ensures .1))
+    order-at-requires
+    returns-2
+    (λ c κs. search needs)
+    returns-3)
