@@ -15,6 +15,7 @@ use Rattle.endian.specs.Numbers.{Bytes, bytesOf, numberAt, numberOf}
 use Rattle.endian.proofs.Numbers.{length-bytesOf}
 use Rattle.endian.proofs.Bytes.{bytes, bytes-nil, bytes-cons, bytes-append, bytes-of, bytes-zeros}
 use Rattle.wal.specs.Entry.{Entry, Encodable, AllEncodable, unsealed, encoded, encodedAll, header, sizeOf, begin, commit, rollback, insert, delete, update}
+use Rattle.page.specs.Layout.{longestTuple}
 use Rattle.rules.specs.Shape.{both, isChange, isOn, pageOf, slotOf, topOn}
 use Rattle.rules.specs.Mend.{topOf}
 use Rattle.rules.proofs.OrderLaws.{Every}
@@ -38,11 +39,11 @@ bare kind lsn t hk hl ht =
     record { lsn = hl; txn = ht; kind = hk; table = omega arith; short = omega arith; size = omega arith; key = bytes-nil; old = bytes-nil; new = bytes-nil }
 
 module _ (lsn t i k : ℕ) (hl : lsn < 2 ^ 64) (ht : t < 2 ^ 64) where
-  pub insertable : {v : List ℕ} → Bytes v → length v ≤ 16316 → Encodable (inserts lsn t i k v)
+  pub insertable : {v : List ℕ} → Bytes v → length v ≤ longestTuple → Encodable (inserts lsn t i k v)
   insertable b h =
       record { lsn = hl; txn = ht; kind = omega arith; table = omega arith; short = omega (arith, key-length i k); size = omega (arith, key-length i k); key = key-bytes i k; old = bytes-nil; new = b }
 
-  pub deletable : {v : List ℕ} → Bytes v → length v ≤ 16316 → Encodable (deletes lsn t i k v)
+  pub deletable : {v : List ℕ} → Bytes v → length v ≤ longestTuple → Encodable (deletes lsn t i k v)
   deletable b h =
       record { lsn = hl; txn = ht; kind = omega arith; table = omega arith; short = omega (arith, key-length i k); size = omega (arith, key-length i k); key = key-bytes i k; old = b; new = bytes-nil }
 

@@ -15,6 +15,7 @@ use Rattle.wal.specs.declared.EntryView.{EntryView}
 use Rattle.wal.proofs.WalkLaws.{EntryAt}
 use Rattle.wal.proofs.Prefix.{stands-at}
 use Rattle.wal.proofs.Places.{old-length, new-length}
+use Rattle.page.specs.Layout.{longestTuple}
 use Rattle.order.proofs.Shapes.{insert-shaped, delete-shaped, update-shaped}
 use Rattle.rules.specs.Shape.{isChange, isChanging, isImage, isKeyed, isShaped, same, stamped, beforeOf, afterOf}
 use Rattle.rules.proofs.Tests.{both-true}
@@ -46,7 +47,7 @@ module _ {s : List ℕ} {at : ℕ} {v : EntryView} (k : EntryAt s at v) (shaped 
     key : v .«key_len» ≡ 10
     place : v .place + (35 + v .«key_len» + v .«old_len») ≡ at + 45
     room : at + 45 + v .«new_len» ≤ length s
-    short : v .«new_len» ≤ 16316
+    short : v .«new_len» ≤ longestTuple
 
   inserted : v .kind ≡ insert → Inserted
   inserted e =
@@ -61,7 +62,7 @@ module _ {s : List ℕ} {at : ℕ} {v : EntryView} (k : EntryAt s at v) (shaped 
     place : v .place + (31 + v .«key_len») ≡ at + 41
     room : at + 41 + v .«old_len» ≤ length s
     long : 24 ≤ v .«old_len»
-    short : v .«old_len» ≤ 16316
+    short : v .«old_len» ≤ longestTuple
 
   removed : v .kind ≡ delete → Deleted
   removed e =

@@ -17,6 +17,7 @@ use Rattle.wal.specs.Entry.{keyPart, oldPart, newPart, entryOf, insert, delete,
 use Rattle.wal.specs.declared.EntryView.{EntryView}
 use Rattle.wal.proofs.WalkLaws.{EntryAt}
 use Rattle.wal.proofs.Places.{key-length, old-length, new-length}
+use Rattle.page.specs.Layout.{longestTuple}
 use Rattle.page.proofs.Reading.{deleted-in}
 use Rattle.rules.specs.Shape.{both, isImage, isNone, isKeyed, isBare, isShaped, same}
 use Rattle.rules.proofs.Tests.{false-true, both-true}
@@ -105,13 +106,13 @@ module _ (s : List ℕ) (a n : ℕ) (room : a + n ≤ length s) where
   unfolding isImage
   image-short h = rw (part-length s a n room, lt-leb 24 n h)
 
-  pub image-long : 24 ≤ n → 16316 < n → isImage (part a n s) ≡ false
+  pub image-long : 24 ≤ n → longestTuple < n → isImage (part a n s) ≡ false
   unfolding isImage
-  image-long h k = rw (part-length s a n room, le-leb 24 n h, lt-leb n 16316 k)
+  image-long h k = rw (part-length s a n room, le-leb 24 n h, lt-leb n longestTuple k)
 
-  pub image-is : 24 ≤ n → n ≤ 16316 → isImage (part a n s) ≡ leb (getD s (a + 16) 0) 1
+  pub image-is : 24 ≤ n → n ≤ longestTuple → isImage (part a n s) ≡ leb (getD s (a + 16) 0) 1
   unfolding isImage
-  image-is h k = rw (part-length s a n room, le-leb 24 n h, le-leb n 16316 k, deleted-in s a n h)
+  image-is h k = rw (part-length s a n room, le-leb 24 n h, le-leb n longestTuple k, deleted-in s a n h)
 
   -- after the key again
   pub keyed-short : (k : ℕ) → k + 10 ≤ length s → n < 10 → isKeyed (part k 10 s) (part a n s) ≡ false

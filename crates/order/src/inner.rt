@@ -19,6 +19,8 @@ use crc32c::inner::Tables;
 use endian::Lsn;
 use endian::inner::u16_at;
 use endian::inner::u64_at;
+use page::LONGEST_TUPLE_BYTES;
+use page::ROW_HEAD_BYTES;
 use refusals::ENTRY_DAMAGED;
 use refusals::ENTRY_SHAPE;
 use refusals::ENTRY_TYPE;
@@ -129,10 +131,10 @@ fn image(log: &[u8], at: usize, n: usize) -> bool
     requires { ⌜ at + n ≤ length (now log) ⌝ }
     ensures { λ r. ⌜ r ≡ isImage (part at n (now (log .entry))) ⌝ }
 {
-    if n < 24 {
+    if n < ROW_HEAD_BYTES {
         return false;
     }
-    if n > 16316 {
+    if LONGEST_TUPLE_BYTES < n {
         return false;
     }
     log[at + 16] <= 1

@@ -16,7 +16,8 @@ use Rattle.endian.specs.Numbers.{part}
 use Rattle.endian.proofs.Places.{part-take, part-drop, drop-part}
 use Rattle.page.specs.Layout.{pageBytes, slotLimit, rowHead, longestTuple, dataType, pagesIn, pageAt, typeOf, countOf, freeEndOf, bodyOf, slotOff, slotLen, slotAt, tupleOffset, payloadOf}
 use Rattle.page.specs.Good.{Filled, DataGood}
-use Rattle.page.specs.Rows.{row, slotRows, pageRows, rowsFrom, rowsOf, rowPayload, Listable}
+use Rattle.page.specs.Rows.{cancelled, row, slotRows, pageRows, rowsFrom, rowsOf, rowPayload, Listable}
+use Rattle.page.specs.Notes.{NoneCancelled}
 use Rattle.page.specs.declared.Row.{Row}
 use Rattle.page.proofs.Picks.{never}
 use Rattle.page.proofs.Slots.{slot-in}
@@ -108,6 +109,14 @@ module _ (shows : List ℕ → Bool) (P : Row → Type 0) where
 
     pub each-row : Each P (rowsOf shows s) → (i k : ℕ) → InSlot shows s i k → P (row i k (pageAt i s))
     each-row u i k h = each-of-pages (pagesIn s) 0 i k u (omega arith) (omega (arith, h .lent)) h
+
+-- a page without cancelled rows
+pub none-cancelled : (i : ℕ) (p : List ℕ) → typeOf p ≡ dataType → pageRows cancelled i p ≡ [] → NoneCancelled p
+none-cancelled i p d e = record { at = λ k l. by-test (cancelled (slotAt p k)) (λ q. each-page cancelled (λ r. ⊥) i p k (rw e tt) d l q) }
+  where
+    by-test : (t : Bool) → (t ≡ true → ⊥) → t ≡ false
+    by-test true h = absurd (h refl)
+    by-test false h = refl
 
 -- ---- the tuple of a row
 

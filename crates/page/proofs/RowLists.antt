@@ -195,6 +195,16 @@ head-none : (l : List Row) → OneOf (0 ∷ 2 ∷ []) (tagOf the-type (headRow l
 head-none [] o = refl
 head-none (r ∷ l) o = absurd (miss (0 ∷ 2 ∷ []) 1 tt o)
 
+head-empty : (l : List Row) → headRow l ≡ NoMore → l ≡ []
+head-empty [] e = refl
+head-empty (r ∷ l) e = let z : _≡_ {A = ℕ} 0 1 = cc in absurd (omega arith)
+
+-- a page on which a search meets none has none
+pub page-none : (shows : List ℕ → Bool) (i : ℕ) (p : List ℕ) → firstAt i 0 (pageRows shows i p) ≡ NoMore → pageRows shows i p ≡ []
+page-none shows i p e =
+    let u : Rising i 0 (pageRows shows i p) = rw (append-nil (pageRows shows i p)) at (rising-page shows i p [] tt) in
+    head-empty (pageRows shows i p) (ap headRow (sym (all-at i 0 (pageRows shows i p) u)) ∙ sym (first-is i 0 (pageRows shows i p)) ∙ e)
+
 module _ (shows : List ℕ → Bool) (s : List ℕ) (i k : ℕ) where
   -- a search meets a row, and goes on behind it
   pub row-next : (r : Row) → firstAt i k (rowsOf shows s) ≡ At r → rowsAt i k (rowsOf shows s) ≡ r ∷ rowsAt (r .page .0) (r .slot + 1) (rowsOf shows s)

@@ -68,6 +68,17 @@ module _ (live : Bool) (t : List ℕ) (v : Bool) (is : v ≡ visible t) where
   pub shows-cancelled : live ≡ false → 0 < length t → not v ≡ shown live t
   shows-cancelled e l = rw (e, is) (cancels l)
 
+-- a tuple that is known not to be cancelled
+pub shows-known : (live : Bool) (t : List ℕ) → cancelled t ≡ false → 0 < length t → live ≡ shown live t
+unfolding cancelled
+shows-known live [] e l = absurd (omega arith)
+shows-known true (b ∷ t) e l = by-test (visible (b ∷ t)) e
+  where
+    by-test : (v : Bool) → not v ≡ false → true ≡ v
+    by-test true q = refl
+    by-test false q = q
+shows-known false (b ∷ t) e l = sym e
+
 visible-some : (t : List ℕ) → 0 < length t → visible t ≡ (eqb (deletedOf t) 0 && eqb (xmaxOf t) 0)
 unfolding visible
 visible-some [] l = absurd (omega arith)

@@ -4,5 +4,6 @@ pub mod Good
 pub mod Fault
 pub mod Granules
 pub mod Rows
+pub mod Notes
 pub mod FreeMap
 pub mod Writer

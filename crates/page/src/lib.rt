@@ -52,8 +52,10 @@ pub const PAGE_LIMIT: usize = 4096;
 // A body has room for no more slots.
 pub const SLOT_LIMIT: usize = 4080;
 
-// The bytes of a row header, the shortest tuple; and where in a page the xmax and the deleted byte of a tuple at the body's start stand.
+// The bytes of a row header, which is the shortest tuple, and of the longest; and where in a page the xmax and the deleted byte of a tuple at the body's start stand.
 pub const ROW_HEAD_BYTES: usize = 24;
+
+pub const LONGEST_TUPLE_BYTES: usize = 16316;
 
 const XMAX_AT: usize = HEAD_BYTES + 8;
 
@@ -153,7 +155,8 @@ fn list_rows(
     ensures { λ r. ⌜ r ≡ rowList magic (now (pages .entry)) (rowsOf (shown live) (now (pages .entry))) (page .0) slot (length (now (out .entry)) / numbersPerRow) ⌝ }
     ensures { λ _. ⌜ now (out .exit) ≡ rowsAfter magic (now (pages .entry)) (rowsOf (shown live) (now (pages .entry))) (page .0) slot (now (out .entry)) ⌝ }
 {
-    let v = verify(magic, pages);
+    let mut notes = [0u8; PAGE_LIMIT];
+    let v = inner::verify_noting(magic, pages, &mut notes);
     if v.number != 0 {
         return RowList {
             verdict: v,
@@ -162,7 +165,7 @@ fn list_rows(
             slot: 0,
         };
     }
-    list::fill(pages, live, page.0 as usize, slot, out)
+    list::fill(pages, &notes, live, page.0 as usize, slot, out)
 }
 
 // Fills the lent numbers with the visible rows at or after a slot of a page, four numbers a row: page, slot, length, offset in the page area; verifies the pages once. Gives

@@ -3,7 +3,9 @@ ghost use mathlib.Core.Path.{_≡_};
 ghost use Prim.Native.Nat.{_+_, _/_, _≤_};
 ghost use lib.ListN.{length};
 ghost use lib.Seq.{paste};
+ghost use Rattle.page.specs.Layout.{pagesIn};
 ghost use Rattle.page.specs.Rows.{Listable, shown, rowsOf, numbersOf, numbersPerRow, listOf, listAfter};
+ghost use Rattle.page.specs.Notes.{Noted};
 use crate::NextRow;
 use crate::PAGE_BYTES;
 use crate::Row;
@@ -42,8 +44,16 @@ fn row_list(count: usize, page: PageNumber, slot: usize) -> RowList
 }
 
 // Fills the lent numbers with the rows at or after a slot of the page at an index that a listing shows, on pages that were verified.
-pub fn fill(pages: &[u8], live: bool, index: usize, slot: usize, out: &mut [u64]) -> RowList
+pub fn fill(
+    pages: &[u8],
+    notes: &[u8],
+    live: bool,
+    index: usize,
+    slot: usize,
+    out: &mut [u64],
+) -> RowList
     requires { ⌜ Listable (now pages) ⌝ }
+    requires { ⌜ Noted (now pages) (now notes) (pagesIn (now pages)) ⌝ }
     ensures { λ r. ⌜ r ≡ listOf (now (pages .entry)) (rowsOf (shown live) (now (pages .entry))) index slot (length (now (out .entry)) / numbersPerRow) ⌝ }
     ensures { λ _. ⌜ now (out .exit) ≡ listAfter (rowsOf (shown live) (now (pages .entry))) index slot (now (out .entry)) ⌝ }
 {
@@ -51,7 +61,7 @@ pub fn fill(pages: &[u8], live: bool, index: usize, slot: usize, out: &mut [u64]
     let mut k = slot;
     let mut m: usize = 0;
     loop {
-        let next = next_shown(pages, live, i, k);
+        let next = next_shown(pages, notes, live, i, k);
         let NextRow::At(row) = next else {
             return row_list(
                 m / ROW_NUMBERS,

@@ -16,7 +16,7 @@ use Rattle.endian.proofs.Numbers.{length-bytesOf}
 use Rattle.endian.proofs.Places.{number-byte}
 use Rattle.endian.proofs.Bytes.{bytes-nil, bytes-cons, bytes-append, bytes-of, bytes-take, bytes-drop}
 use Rattle.wal.specs.Entry.{Entry, insert, delete, update, checkpoint}
-use Rattle.page.specs.Layout.{deletedOf}
+use Rattle.page.specs.Layout.{longestTuple, deletedOf}
 use Rattle.page.specs.Good.{TupleGood}
 use Rattle.rules.specs.Shape.{Change, both, either, isChange, isChanging, isImage, isNone, isKey, isKeyed, isBare, isShaped, keyBytes, same, stamped, pageOf, slotOf, beforeOf, afterOf, isOn, effectOn}
 use Rattle.rules.specs.Mend.{changes}
@@ -26,14 +26,14 @@ use Rattle.rules.proofs.OrderLaws.{Every, every-map, InTurn, all-shaped
 
 pub record Image (t : List ℕ) : Type 0 where
   pub long : 24 ≤ length t
-  pub short : length t ≤ 16316
+  pub short : length t ≤ longestTuple
   pub deleted : deletedOf t ≤ 1
 
 pub image : {t : List ℕ} → isImage t ≡ true → Image t
 unfolding isImage
 image {t} h =
     let a = both-true (leb 24 (length t)) _ h in
-    let b = both-true (leb (length t) 16316) _ (a .1) in
+    let b = both-true (leb (length t) longestTuple) _ (a .1) in
     record { long = leb-true _ _ (a .0); short = leb-true _ _ (b .0); deleted = leb-true _ _ (b .1) }
 
 pub image-good : {t : List ℕ} → Image t → TupleGood t

@@ -3,6 +3,7 @@ ghost use mathlib.Core.Path.{_≡_};
 ghost use Rattle.summary.specs.Summary.{numberedRow, stepOf, summaryAfter, summaryOf, summaryWritten};
 use endian::Lsn;
 use endian::PageNumber;
+use page::PAGE_LIMIT;
 use refusals::SUMMARY_AREA;
 use refusals::Verdict;
 use refusals::Written;
@@ -65,14 +66,15 @@ pub fn write(magic: u64, pages: &[u8], lsn: Lsn, area: &mut [u8]) -> Written
     ensures { λ r. ⌜ r ≡ summaryWritten magic (now (pages .entry)) (lsn .0) (now (area .entry)) ⌝ }
     ensures { λ _. ⌜ now (area .exit) ≡ summaryAfter magic (now (pages .entry)) (lsn .0) (now (area .entry)) ⌝ }
 {
-    let v = page::verify(magic, pages);
+    let mut notes = [0u8; PAGE_LIMIT];
+    let v = page::inner::verify_noting(magic, pages, &mut notes);
     if v.number != 0 {
         return Written {
             verdict: v,
             length: 0,
         };
     }
-    let m = writer::measure(pages);
+    let m = writer::measure(pages, &notes);
     let need = writer::head_size(lsn, m.rows) + m.bytes;
     if area.len() < need {
         return Written {
@@ -83,7 +85,7 @@ pub fn write(magic: u64, pages: &[u8], lsn: Lsn, area: &mut [u8]) -> Written
             length: 0,
         };
     }
-    writer::put_file(pages, lsn, m.rows, area);
+    writer::put_file(pages, &notes, lsn, m.rows, area);
     Written {
         verdict: Verdict {
             number: 0,

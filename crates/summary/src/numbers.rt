@@ -8,10 +8,21 @@ use crate::Number;
 use refusals::SUMMARY_ENDS_EARLY;
 use refusals::SUMMARY_SPELLING;
 
-// How many groups a number has.
+// How many groups a number below 16,384 has. It takes no jump, which would often be guessed wrong.
+fn small_size(n: u64) -> usize
+    requires { ⌜ n < 16384 ⌝ }
+    ensures { λ r. ⌜ r ≡ length (groups n) ⌝ }
+{
+    if n < 128 { 1 } else { 2 }
+}
+
+// How many groups a number has. Those of a row are small.
 pub fn size(n: u64) -> usize
     ensures { λ r. ⌜ (r ≡ length (groups n)) × (r ≤ 10) ⌝ }
 {
+    if n < 16384 {
+        return small_size(n);
+    }
     let mut rest = n;
     let mut count: usize = 1;
     while 128 <= rest {

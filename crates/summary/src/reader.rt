@@ -13,6 +13,7 @@ use crate::numbers::read;
 use crate::numbers::refused;
 use endian::Lsn;
 use endian::PageNumber;
+use page::LONGEST_TUPLE_BYTES;
 use page::PAGE_LIMIT;
 use page::ROW_HEAD_BYTES;
 use page::SLOT_LIMIT;
@@ -24,9 +25,6 @@ use refusals::Verdict;
 
 // The edition that is written and read.
 pub const EDITION: u64 = 1;
-
-// The longest tuple.
-const LONGEST_TUPLE_BYTES: u64 = 16316;
 
 fn verdict(number: u64, place: usize) -> Verdict
     ensures { λ r. ⌜ r ≡ record { number = number; place = place } ⌝ }
@@ -137,7 +135,7 @@ fn length_at(file: &[u8], at: usize) -> Number
     if n.value < ROW_HEAD_BYTES as u64 {
         return refused(SUMMARY_RANGE, at);
     }
-    if LONGEST_TUPLE_BYTES < n.value {
+    if (LONGEST_TUPLE_BYTES as u64) < n.value {
         return refused(SUMMARY_RANGE, at);
     }
     n

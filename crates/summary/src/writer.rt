@@ -4,6 +4,7 @@ ghost use Prim.Native.Nat.{_+_, _≤_};
 ghost use lib.ListN.{length};
 ghost use Rattle.page.specs.Layout.{pageLimit, pagesIn};
 ghost use Rattle.page.specs.Rows.{Listable, visibleRows};
+ghost use Rattle.page.specs.Notes.{Noted};
 ghost use Rattle.summary.specs.Summary.{headOf, rowBytes, rowsBytes, shortened, summaryFile, summaryRows};
 ghost use Rattle.summary.specs.Inner.{put};
 use crate::Measured;
@@ -13,7 +14,7 @@ use crate::reader::EDITION;
 use endian::Lsn;
 use page::NextRow;
 use page::Row;
-use page::inner::next_row;
+use page::inner::next_noted;
 
 // How many bytes a row takes.
 fn row_size(row: Row) -> usize
@@ -23,9 +24,10 @@ fn row_size(row: Row) -> usize
 }
 
 // How many rows are visible, and how many bytes they take, on pages that were verified.
-pub fn measure(pages: &[u8]) -> Measured
+pub fn measure(pages: &[u8], notes: &[u8]) -> Measured
     requires { ⌜ Listable (now pages) ⌝ }
     requires { ⌜ pagesIn (now pages) ≤ pageLimit ⌝ }
+    requires { ⌜ Noted (now pages) (now notes) (pagesIn (now pages)) ⌝ }
     ensures { λ r. ⌜ r ≡ record { rows = length (visibleRows (now (pages .entry))); bytes = length (rowsBytes (summaryRows (now (pages .entry)))) } ⌝ }
 {
     let mut i: usize = 0;
@@ -33,7 +35,7 @@ pub fn measure(pages: &[u8]) -> Measured
     let mut rows: u64 = 0;
     let mut bytes: usize = 0;
     loop {
-        let next = next_row(pages, i, k);
+        let next = next_noted(pages, notes, i, k);
         let NextRow::At(row) = next else {
             return Measured {
                 rows: rows,
@@ -77,16 +79,17 @@ fn put_row(area: &mut [u8], at: usize, row: Row) -> usize
 }
 
 // Writes the visible rows from a place on, on pages that were verified.
-fn put_rows(pages: &[u8], area: &mut [u8], first: usize)
+fn put_rows(pages: &[u8], notes: &[u8], area: &mut [u8], first: usize)
     requires { ⌜ Listable (now pages) ⌝ }
     requires { ⌜ first + length (rowsBytes (summaryRows (now pages))) ≤ length (now area) ⌝ }
+    requires { ⌜ Noted (now pages) (now notes) (pagesIn (now pages)) ⌝ }
     ensures { λ _. ⌜ now (area .exit) ≡ put (now (area .entry)) first (rowsBytes (summaryRows (now (pages .entry)))) ⌝ }
 {
     let mut i: usize = 0;
     let mut k: usize = 0;
     let mut at = first;
     loop {
-        let next = next_row(pages, i, k);
+        let next = next_noted(pages, notes, i, k);
         let NextRow::At(row) = next else {
             return;
         };
@@ -97,12 +100,13 @@ fn put_rows(pages: &[u8], area: &mut [u8], first: usize)
 }
 
 // Writes the whole file, for which there is room.
-pub fn put_file(pages: &[u8], lsn: Lsn, rows: u64, area: &mut [u8])
+pub fn put_file(pages: &[u8], notes: &[u8], lsn: Lsn, rows: u64, area: &mut [u8])
     requires { ⌜ Listable (now pages) ⌝ }
     requires { ⌜ rows ≡ length (visibleRows (now pages)) ⌝ }
     requires { ⌜ length (headOf (lsn .0) rows) + length (rowsBytes (summaryRows (now pages))) ≤ length (now area) ⌝ }
+    requires { ⌜ Noted (now pages) (now notes) (pagesIn (now pages)) ⌝ }
     ensures { λ _. ⌜ now (area .exit) ≡ put (now (area .entry)) 0 (summaryFile (now (pages .entry)) (lsn .0)) ⌝ }
 {
     let first = put_head(area, lsn, rows);
-    put_rows(pages, area, first);
+    put_rows(pages, notes, area, first);
 }

@@ -5,6 +5,7 @@ use std::collections::HashMap;
 
 use crate::bytes::{u16_at, u64_at};
 use crate::log::{forward, EntryFields, Step, LOG_HEADER_BYTES};
+use crate::page::{LONGEST_TUPLE_BYTES, ROW_HEADER_BYTES};
 use crate::recovery::Record;
 use crate::Refusal;
 
@@ -89,7 +90,7 @@ fn is_change(kind: u64) -> bool {
 
 /// A tuple image has 24 to 16,316 bytes and a deleted byte of 0 or 1.
 fn is_tuple_image(image: &[u8]) -> bool {
-    (24..=16_316).contains(&image.len()) && image[16] <= 1
+    (ROW_HEADER_BYTES..=LONGEST_TUPLE_BYTES).contains(&image.len()) && image[16] <= 1
 }
 
 /// An UpdateInPlace value begins with the key's 10 bytes again, and then holds

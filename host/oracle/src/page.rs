@@ -16,6 +16,9 @@ pub(crate) const FREE: u8 = 4;
 /// A row header has 24 bytes: xmin, xmax, deleted byte and 7 pad bytes.
 pub(crate) const ROW_HEADER_BYTES: usize = 24;
 
+/// The longest tuple.
+pub(crate) const LONGEST_TUPLE_BYTES: usize = 16_316;
+
 /// Refusal 1: page bytes no multiple of 16,384, or over 4,096 pages.
 pub(crate) fn check_page_bytes(pages: &[u8]) -> Result<(), Refusal> {
     if pages.len() % PAGE_BYTES != 0 || pages.len() / PAGE_BYTES > MAX_PAGES {

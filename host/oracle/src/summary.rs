@@ -2,7 +2,10 @@
 //! of seven bits, lowest group first, the high bit set on all groups but the
 //! last, in the fewest groups.
 
+use std::ops::RangeInclusive;
+
 use crate::listing::{check, visible_rows};
+use crate::page::{LONGEST_TUPLE_BYTES, ROW_HEADER_BYTES};
 use crate::{Refusal, Written};
 
 /// The only edition.
@@ -11,7 +14,7 @@ const EDITION: u64 = 1;
 /// Pages, slots and lengths that a row may have.
 const PAGES: u64 = 4096;
 const SLOTS: u64 = 4080;
-const LENGTHS: std::ops::RangeInclusive<u64> = 24..=16316;
+const LENGTHS: RangeInclusive<u64> = ROW_HEADER_BYTES as u64..=LONGEST_TUPLE_BYTES as u64;
 
 /// What a file says of itself, and where its first row stands; refused, all but
 /// number and place are 0.

@@ -11,20 +11,20 @@ use Rattle.page.proofs.list.fill.Statement.{statement}
 use Rattle.page.proofs.list.fill.Tie as tie
 
 abbrev Inv-loop : tie.InvT-loop
-Inv-loop pages live index slot out₀ i₀ k₀ m₀ out i k m = Given (shown live) pages out₀ index slot i k m out
+Inv-loop pages notes live index slot out₀ i₀ k₀ m₀ out i k m = Given (shown live) pages out₀ index slot i k m out
 
 abbrev μ-loop : tie.MeasureT-loop
-μ-loop pages live index slot out₀ i₀ k₀ m₀ out i k m = length (rowsAt i k (rowsOf (shown live) pages))
+μ-loop pages notes live index slot out₀ i₀ k₀ m₀ out i k m = length (rowsAt i k (rowsOf (shown live) pages))
 
 loop-holds : tie.Need-loop-holds Inv-loop μ-loop
 loop-holds c = given-none _ _ _ _ _
 
 next-shown-requires : tie.Need-next-shown-requires Inv-loop μ-loop
-next-shown-requires c κs = c .before .before .before .pre
+next-shown-requires c κs = c .before .before .before .before .pre
 
 -- a row was met
 met : (c : tie.After-next Inv-loop μ-loop) → let l = c .before .before .before in
-    firstAt (l .loop .i) (l .loop .k) (rowsOf (shown (l .before .before .before .args .live)) (l .before .before .before .args .pages .now)) ≡ At (c .next .given .0 .0)
+    firstAt (l .loop .i) (l .loop .k) (rowsOf (shown (l .before .before .before .before .args .live)) (l .before .before .before .before .args .pages .now)) ≡ At (c .next .given .0 .0)
 met c = sym (c .before .before .next-shown .ensures) ∙ c .next .given .1
 
 same-length : tie.Need-same-length Inv-loop μ-loop
@@ -58,8 +58,8 @@ add-m c = let g = c .before .before .before .before .before .before .before .bef
 add-k : tie.Need-add-k Inv-loop μ-loop
 add-k c =
     let n = c .before .before .before .before .before .before .before in
-    let s = n .before .before .before .before .before .before in
-    record { fits = omega (arith, row-stands _ (empty (s .args .live)) _ (s .pre) _ _ _ (met n) .low) }
+    let s = n .before .before .before .before .before .before .before in
+    record { fits = omega (arith, row-stands _ (empty (s .args .live)) _ (s .pre .0) _ _ _ (met n) .low) }
 
 loop-less : tie.Need-loop-less Inv-loop μ-loop
 loop-less c = let n = c .before .before .before .before .before .before .before in omega (arith, ap length (row-next _ _ _ _ _ (met n)))

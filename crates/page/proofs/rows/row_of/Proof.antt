@@ -13,13 +13,16 @@ use Rattle.page.proofs.rows.row_of.Statement.{statement}
 use Rattle.page.proofs.rows.row_of.Tie as tie
 
 abbrev Inv-loop : tie.InvT-loop
-Inv-loop page live index slot n k₀ k = (slot ≤ k) × (firstAt index slot (slotRows (shown live) index page (countOf page - k) k) ≡ firstAt index slot (slotRows (shown live) index page (countOf page) 0))
+Inv-loop page live noted index slot n k₀ k = (slot ≤ k) × (firstAt index slot (slotRows (shown live) index page (countOf page - k) k) ≡ firstAt index slot (slotRows (shown live) index page (countOf page) 0))
 
 abbrev μ-loop : tie.MeasureT-loop
-μ-loop page live index slot n k₀ k = countOf page - k
+μ-loop page live noted index slot n k₀ k = countOf page - k
 
 loop-holds : tie.Need-loop-holds Inv-loop μ-loop
 loop-holds c = (omega arith, slots-from _ _ _ _ _)
+
+shown-len-requires : tie.Need-shown-len-requires Inv-loop μ-loop
+shown-len-requires c κs = let s = c .before .before .before .before in (s .pre .0, (s .pre .1 .0, (omega arith, s .pre .1 .1 .0)))
 
 -- the slot has a row that is shown
 met : (c : tie.Then1 Inv-loop μ-loop) → let l = c .before .before .before in let t = slotAt (l .before .before .before .args .page .now) (l .loop .k) in
@@ -31,7 +34,7 @@ met c =
     (h .0, e ∙ h .1)
 
 row-in-requires : tie.Need-row-in-requires Inv-loop μ-loop
-row-in-requires c κs = let s = c .before .before .before .before .before .before in ((s .pre .0, omega arith), (s .pre .1 .1, met c .1))
+row-in-requires c κs = let s = c .before .before .before .before .before .before in ((s .pre .0, omega arith), (s .pre .1 .1 .1, met c .1))
 
 returns : tie.Need-returns Inv-loop μ-loop
 returns c =
@@ -53,4 +56,4 @@ returns-2 c =
 pub row-of-spec : {M : Type 1} → statement M
 row-of-spec =
     tie.close
-    (tie.spec Inv-loop μ-loop (λ c κs. search needs) loop-holds (λ c κs. search needs) row-in-requires returns (λ c. search needs) (λ c. search needs) loop-again returns-2)
+    (tie.spec Inv-loop μ-loop (λ c κs. search needs) loop-holds shown-len-requires row-in-requires returns (λ c. search needs) (λ c. search needs) loop-again returns-2)
