@@ -7,8 +7,8 @@ ghost use lib.Dec.{eqb};
 ghost use Rattle.wal.specs.Read.{lengthAt};
 ghost use Rattle.wal.specs.Prefix.{Met, Stands, said, before};
 ghost use Rattle.rules.specs.Shape.{isChange, isShaped, pageOf, slotOf};
-ghost use Rattle.order.specs.Clash.{clashAfter};
-ghost use Rattle.order.specs.State.{stateAfter, stateOf};
+ghost use Rattle.states.specs.Clash.{clashAfter};
+ghost use Rattle.states.specs.State.{stateAfter, stateOf};
 ghost use Rattle.cells.specs.Cell.{Starts, Blank};
 ghost use Rattle.cells.specs.Measure.{Sound, FirstBeyond};
 ghost use Rattle.clash.specs.Newest.{onSlot, newestOn, kept, Newest};
@@ -19,12 +19,13 @@ use cells::inner::cell_at;
 use cells::inner::clear;
 use cells::inner::group_end;
 use cells::inner::page_at;
+use change::inner::is_change;
+use endian::TxnNumber;
 use endian::inner::put_u16;
 use endian::inner::u16_at;
 use endian::inner::u64_at;
-use order::inner::is_change;
-use order::inner::look_back;
-use order::inner::state_after;
+use states::inner::look_back;
+use states::inner::state_after;
 use wal::FIRST;
 use wal::inner::place_before;
 use wal::inner::standing;
@@ -115,7 +116,7 @@ fn is_open(log: &[u8], at: usize, opens: &[u32; 32766], u: u64) -> bool
     let r = (u % 16383) as usize;
     let v = opens[r];
     if v == 1 {
-        return look_back(log, at, u) == 1;
+        return look_back(log, at, TxnNumber(u)) == 1;
     }
     if is_of(log, u, v) {
         return true;

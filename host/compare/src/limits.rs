@@ -23,6 +23,9 @@ const SHORTEST_CHANGE: usize = 77;
 /// Numbers that differ by this have one remainder by every power of two that a table might use, by 16,383 and by 65,532.
 const STEP: u64 = 65_532 << 18;
 
+/// Transactions whose numbers do not rise and whose first places recovery sorts block by block: so many fill several blocks.
+const SEVERAL_BLOCKS: u64 = 40_000;
+
 /// A case: its name, its inputs and the number that recovery answers.
 type Limit = (&'static str, fn() -> Input, u64);
 
@@ -98,6 +101,17 @@ const LIMITS: &[Limit] = &[
     ("the longest log, all zero", || zeros(Log::new()), 0),
     ("the longest log, zeros at last", || zeros(short_log(12)), 0),
     ("the longest log, zeros and a one", zeros_and_a_one, 4),
+    ("numbers of several blocks", || several_blocks(&[]), 0),
+    (
+        "a high number begins twice, then a low one",
+        || several_blocks(&[(SEVERAL_BLOCKS, BEGIN), (1, BEGIN)]),
+        8,
+    ),
+    (
+        "a low number ends twice, then a high one",
+        || several_blocks(&[(1, COMMIT), (SEVERAL_BLOCKS, COMMIT)]),
+        8,
+    ),
 ];
 
 /// Seed, name and recovery's number of every case.
@@ -335,6 +349,20 @@ fn begins_of(too_few: usize) -> Input {
     }
     log.begins -= too_few;
     Input::new(area(1), log).refused_at(if too_few == 0 { 0 } else { last })
+}
+
+/// Transactions with falling numbers, and entries behind them of which the first is out of order.
+fn several_blocks(wrong: &[(u64, u8)]) -> Input {
+    let mut log = Log::new();
+    for number in (1..=SEVERAL_BLOCKS).rev() {
+        log.put(Entry::bare(number, BEGIN));
+        log.put(Entry::bare(number, COMMIT));
+    }
+    let place = log.place();
+    for &(number, kind) in wrong {
+        log.put(Entry::bare(number, kind));
+    }
+    Input::new(area(1), log).refused_at(if wrong.is_empty() { 0 } else { place })
 }
 
 /// Eight pages with the longest tuple each.

@@ -27,6 +27,11 @@ fn call_everything() {
         log.extend(entry.with_lsn(lsn).encode());
     }
     let mut table = [0; 4];
+    // Begins whose numbers fall are judged by other functions than those that rise.
+    let mut falling = log_header(&[0; 26]);
+    for (lsn, number) in [(1, 9), (2, 8)] {
+        falling.extend(Entry::bare(number, BEGIN).with_lsn(lsn).encode());
+    }
 
     assert_eq!(library::log_open(&log, true).place, log.len() as u64);
     assert_eq!(library::log_forward(&log, 32).lsn, 1);
@@ -72,6 +77,8 @@ fn call_everything() {
     assert_eq!(row.payload(&pages, &log), b"late");
     let answer = library::recover(MAGIC, 0, &mut pages, &log, &mut table);
     assert_eq!((answer.number, answer.pages_rewritten), (0, 300));
+    let answer = library::recover(MAGIC, 1_000, &mut pages, &falling, &mut [0; 8]);
+    assert_eq!((answer.number, answer.unended), (0, 2));
 }
 
 /// A library that needs more ends this test program by a signal.
