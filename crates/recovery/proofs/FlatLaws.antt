@@ -7,8 +7,8 @@ use lib.ListN.{length, drop}
 use Rattle.wal.specs.Entry.{Entry}
 use Rattle.rules.specs.Recover.{recordsOf, tableAfter}
 use Rattle.rules.specs.declared.Record.{Record}
-use Rattle.tally.specs.Flat.{flat, flatAfter}
-use Rattle.tally.proofs.Records.{flat-append}
+use Rattle.table.specs.Flat.{flat, flatAfter}
+use Rattle.table.proofs.Flattening.{flat-append, length-flat}
 use Rattle.recovery.specs.Flat.{rows, left}
 
 pub length-rows : (t : List ℕ) → length (rows t) ≡ length t / 4
@@ -27,11 +27,6 @@ flat-rows (a ∷ []) = refl
 flat-rows (a ∷ b ∷ []) = refl
 flat-rows (a ∷ b ∷ c ∷ []) = refl
 flat-rows (a ∷ b ∷ c ∷ d ∷ l) = ap (λ (m : List ℕ). a ∷ b ∷ c ∷ d ∷ m) (flat-rows l)
-
-length-flat : (rs : List Record) → length (flat rs) ≡ 4 * length rs
-unfolding flat
-length-flat [] = refl
-length-flat (r ∷ rs) = omega (arith, length-flat rs)
 
 flat-drop : (k : ℕ) (rs : List Record) (l : List ℕ) → k ≤ length rs → flat (drop k rs) ++ l ≡ drop (4 * k) (flat rs ++ l)
 unfolding flat

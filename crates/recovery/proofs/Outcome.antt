@@ -20,9 +20,9 @@ use Rattle.rules.proofs.Verdicts.{log-undamaged, is-accepted}
 use Rattle.order.specs.declared.Walked.{Walked}
 use Rattle.fates.specs.Fate.{Ordered}
 use Rattle.tally.specs.Counts.{tallyOf}
-use Rattle.tally.specs.Flat.{flatAfter}
+use Rattle.table.specs.Flat.{flatAfter}
 use Rattle.checks.proofs.LogLaws.{header-fits}
-use Rattle.records.proofs.Filling.{length-records}
+use Rattle.table.proofs.Flattening.{length-records}
 use Rattle.recovery.specs.Flat.{rows, FlatRecovered, flattened, recoverFlat}
 use Rattle.images.specs.Page.{Sound, Touched, Fitting}
 use Rattle.recovery.specs.Judgement.{Judgement, answerFrom}

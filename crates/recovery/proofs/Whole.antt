@@ -1,6 +1,7 @@
 -- Recovery with a table of records, from recovery without it: what its answer tells, and what the table then holds.
 -- Assumes nothing.
-use Prim.Native.Nat.{ℕ, _≤_}
+use Prim.Native.Nat.{ℕ, _≤_, _<_}
+use native.Mathlib.Omega.{arith}
 use mathlib.Core.Path.{_≡_, refl, sym, ap, _∙_}
 use mathlib.Core.Bool.{Bool, true, false}
 use mathlib.Core.List.{List, []}
@@ -8,16 +9,25 @@ use lib.Dec.{eqb}
 use lib.ListN.{length}
 use borrow.Author.Tests.{eqb-true, eqb-false}
 use Rattle.endian.specs.Pick.{pick}
-use Rattle.wal.specs.Walk.{entries, endOf}
+use Rattle.wal.specs.Entry.{Entry}
+use Rattle.wal.specs.Walk.{entries, endOf, endingOf, endingNumber}
+use Rattle.page.specs.Layout.{pagesIn}
 use Rattle.refusals.specs.declared.Verdict.{Verdict}
 use Rattle.rules.specs.Order.{count, isBegin, fullAt}
-use Rattle.rules.specs.Recover.{recoverVerdict, tableAfter, Recovered, recoverBy, recoverOf}
+use Rattle.rules.specs.Recover.{recoverVerdict, tableAfter, done, Recovered, recoverBy, recoverOf}
 use Rattle.rules.specs.declared.Answer.{Answer}
 use Rattle.rules.specs.declared.Record.{Record}
 use Rattle.rules.proofs.Again.{answer-zero}
+use Rattle.rules.proofs.Counts.{transactions-sum}
 use Rattle.fates.specs.Fate.{Ordered}
+use Rattle.table.specs.Telling.{reach}
+use Rattle.table.specs.Holding.{due}
 use Rattle.recovery.proofs.Outcome.{sure, by-refused, by-done, by-answer, by-pages, answer-refused, answer-tail, begins-of}
 use Rattle.rules.specs.Lent.{lent}
+
+due-done : (es : List Entry) (end way n : ℕ) → due (done es end way n) ≡ count isBegin es
+unfolding due done
+due-done es end way n = transactions-sum es
 
 module _ (magic floor : ℕ) (pages log : List ℕ) (table : List Record) where
   abbrev Judged : Verdict
@@ -39,10 +49,11 @@ module _ (magic floor : ℕ) (pages log : List ℕ) (table : List Record) where
     pub whole-ordered : a .number ≡ 0 → Ordered log
     whole-ordered z = sure _ _ _ _ _ (zero z) .ordered
 
-    pub whole-due : a .number ≡ 0 → (endOf log ≡ a .tail) × (length log ≤ 16777216) × (count isBegin (entries log) ≤ length table)
+    pub whole-due : a .number ≡ 0 → (endOf log ≡ a .tail) × (length log < reach) × (count isBegin (entries log) ≡ due a) × (due a ≤ length table)
     whole-due z =
         let h = zero z in
-        (sym (ap (λ (b : Answer). b .tail) e ∙ answer-tail Judged pages log [] h), sure _ _ _ _ _ h .small, begins-of (length table) magic floor pages log h)
+        let k : due a ≡ count isBegin (entries log) = ap due (e ∙ ap (λ (r : Recovered). r .answer) (by-done Judged pages log [] h)) ∙ due-done (entries log) (endOf log) (endingNumber (endingOf log)) (pagesIn pages) in
+        (sym (ap (λ (b : Answer). b .tail) e ∙ answer-tail Judged pages log [] h), omega (arith, sure _ _ _ _ _ h .small), sym k, omega (arith, begins-of (length table) magic floor pages log h))
 
     -- what it leaves
     pub whole-table : pick (eqb (a .number) 0) (tableAfter (entries log) table) table ≡ recoverOf (lent magic floor pages log) table .table

@@ -4,7 +4,7 @@ use mathlib.Core.List.{List, [], _∷_, _++_}
 use Rattle.rules.specs.Recover.{Recovered, recoverOf}
 use Rattle.rules.specs.declared.Answer.{Answer}
 use Rattle.rules.specs.declared.Record.{Record}
-use Rattle.tally.specs.Flat.{flat}
+use Rattle.table.specs.Flat.{flat}
 use Rattle.rules.specs.Lent.{Lent}
 
 -- the records of a flat table, and the numbers behind the last whole one

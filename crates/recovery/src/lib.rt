@@ -7,20 +7,22 @@ ghost use Rattle.wal.specs.Walk.{entries, endOf};
 ghost use Rattle.rules.specs.Order.{count, isBegin};
 ghost use Rattle.rules.specs.Recover.{recoverOf};
 ghost use Rattle.fates.specs.Fate.{Ordered};
-ghost use Rattle.tally.specs.Flat.{flatAfter};
+ghost use Rattle.table.specs.Flat.{stride, flatAfter};
 ghost use Rattle.rules.specs.Row.{rowOf, rowPayload, locatedOf};
 ghost use Rattle.recovery.specs.Flat.{recoverFlat};
 use endian::Lsn;
 use endian::PageNumber;
 use images::Image;
 use order::Walked;
-use records::inner::fill;
 use rules::Answer;
 use rules::Located;
 use rules::Record;
 use rules::RowHead;
+use table::STRIDE;
+use table::inner::GUESSES;
+use table::inner::fill_flat;
+use table::inner::records::fill;
 use tally::Tally;
-use tally::inner::fill_flat;
 
 mod core;
 mod judge;
@@ -53,14 +55,14 @@ pub fn recover(magic: u64, floor: Lsn, pages: &mut [u8], log: &[u8], table: &mut
 // Fills a table of numbers with the records of an accepted log.
 fn fill_table(log: &[u8], end: usize, table: &mut [u64])
     requires { ⌜ Ordered (now log) ⌝ }
-    requires { ⌜ (endOf (now log) ≡ end) × (length (now log) ≤ 16777216) × (count isBegin (entries (now log)) ≤ length (now table) / 4) ⌝ }
+    requires { ⌜ (endOf (now log) ≡ end) × (length (now log) ≤ 16777216) × (count isBegin (entries (now log)) ≤ length (now table) / stride) ⌝ }
     ensures { λ _. ⌜ now (table .exit) ≡ flatAfter (entries (now (log .entry))) (now (table .entry)) ⌝ }
 {
-    let mut hints = [0u32; 16384];
-    fill_flat(log, end, table, &mut hints);
+    let mut guesses = [0u32; GUESSES];
+    fill_flat(log, end, table, &mut guesses[..]);
 }
 
-// Recovery with a table of numbers, four for each record.
+// Recovery with a table of numbers, STRIDE for each record.
 pub fn recover_flat(
     magic: u64,
     floor: Lsn,
@@ -72,7 +74,7 @@ pub fn recover_flat(
     ensures { λ _. ⌜ now (pages .exit) ≡ recoverFlat (lent magic (floor .0) (now (pages .entry)) (now (log .entry))) (now (table .entry)) .pages ⌝ }
     ensures { λ _. ⌜ now (table .exit) ≡ recoverFlat (lent magic (floor .0) (now (pages .entry)) (now (log .entry))) (now (table .entry)) .table ⌝ }
 {
-    let records = (table.len() / 4) as u64;
+    let records = (table.len() / STRIDE) as u64;
     let a = core::recover(magic, floor, pages, log, records);
     if a.number == 0 {
         fill_table(log, a.tail as usize, table);

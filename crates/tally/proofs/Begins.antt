@@ -10,15 +10,13 @@ use lib.Dec.{eqb}
 use borrow.Author.Tests.{eqb-true, eqb-false, eq-eqb}
 use Rattle.endian.specs.Pick.{pick}
 use Rattle.wal.specs.Entry.{Entry, begin, commit, rollback}
-use Rattle.wal.specs.Prefix.{Met, before}
 use Rattle.rules.specs.Shape.{both, either, isChanging}
 use Rattle.rules.specs.Order.{one, count, is, isBegin, neverFull}
 use Rattle.rules.proofs.OrderLaws.{Passes, numbered}
 use Rattle.rules.proofs.Counts.{count-append}
 use Rattle.states.specs.State.{stateAfter, stateFrom, stateOf}
 use Rattle.states.proofs.States.{state-snoc}
-use Rattle.fates.specs.Fate.{Ordered}
-use Rattle.fates.proofs.Turns.{AllTold, own-state, held-at}
+use Rattle.fates.proofs.Turns.{AllTold, own-state}
 use Rattle.fates.proofs.Endings.{of-other}
 
 -- ---- counts
@@ -73,6 +71,3 @@ once-next es f h told o = record { at = λ t. count-append (is begin t) es (f �
     go : (t : ℕ) (b : Bool) → eqb (f .txn) t ≡ b → count (is begin t) es + (one (is begin t f) + 0) ≡ pick (eqb t 0) 0 (pick (eqb (stateOf t (es ++ (f ∷ []))) 0) 0 1)
     go t true q = rw (← eqb-true (f .txn) t q) (mine (eqb (f .txn) 0) refl)
     go t false q = rw (of-other begin t f q, state-snoc t es f, q) (other (count (is begin t) es) ∙ o .at t)
-
-pub once-at : {s : List ℕ} {p : ℕ} → Ordered s → Met s p → Once (before s p)
-once-at = held-at Once once-none once-next

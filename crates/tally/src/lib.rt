@@ -1,4 +1,4 @@
-// What recovery counts over an accepted log, and its transaction table as plain numbers.
+// What recovery counts over an accepted log.
 pub mod inner;
 
 // Transactions by outcome, changes by the outcome of their transaction, and changes of transaction 0.

@@ -51,11 +51,11 @@ use Rattle.rules.specs.declared.Record.{Record}
 use Rattle.rules.proofs.Answer as S
 use Rattle.rules.proofs.Answer.Laws as S′
 use Rattle.rules.proofs.Record as T
-use Rattle.records.proofs.Clauses.{clause, clause-more, says-all}
-use Rattle.records.proofs.inner.fill as fill
-use Rattle.records.proofs.inner.fill.Symbol as fill-def
-use Rattle.records.proofs.inner.fill.Symbol.{name as #fill}
-use Rattle.records.proofs.inner.fill.Met as fill-thm
+use Rattle.table.proofs.Clauses.{clause, clause-more, says-all}
+use Rattle.table.proofs.inner.records.fill as fill
+use Rattle.table.proofs.inner.records.fill.Symbol as fill-def
+use Rattle.table.proofs.inner.records.fill.Symbol.{name as #fill}
+use Rattle.table.proofs.inner.records.fill.Met as fill-thm
 use Rattle.recovery.proofs.Whole.{whole-answer, whole-pages, whole-ordered, whole-due, whole-table}
 use Rattle.recovery.proofs.core.recover as core
 use Rattle.recovery.proofs.core.recover.Symbol as core-def
@@ -245,4 +245,4 @@ recover-spec 𝓤 H 𝓜 𝓖 𝓡 =
     (tables 𝓤 H 𝓜 𝓡 code.env .C) (tables 𝓤 H 𝓜 𝓡 code.env .Λ) #recover code.function (code.unfolded 𝓤 H 𝓜 𝓡)
     (f-meets 𝓤 H (𝓖 .A) (givenOf 𝓤 H 𝓜 𝓖) (𝓜 .mem) (𝓡 .run) (tablesOf 𝓤 H 𝓜 (tables 𝓤 H 𝓜 𝓡 code.env))
     (cited 𝓤 H (Core 𝓤 H (𝓖 .A) (𝓜 .mem) (𝓡 .run)) 𝓜 𝓡 code.env #core core-def.routine code.calls-recovery·core·recover (core-thm.met 𝓤 H 𝓜 𝓖 𝓡))
-    (cited 𝓤 H (Fill 𝓤 H (𝓖 .A) (𝓜 .mem) (𝓡 .run)) 𝓜 𝓡 code.env #fill fill-def.routine code.calls-records·inner·fill (fill-thm.met 𝓤 H 𝓜 𝓖 𝓡)))
+    (cited 𝓤 H (Fill 𝓤 H (𝓖 .A) (𝓜 .mem) (𝓡 .run)) 𝓜 𝓡 code.env #fill fill-def.routine code.calls-table·inner·records·fill (fill-thm.met 𝓤 H 𝓜 𝓖 𝓡)))

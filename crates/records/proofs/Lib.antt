@@ -1,5 +1,0 @@
-pub mod Begins
-pub mod Closings
-pub mod Filling
-pub mod Clauses
-pub mod Stages

@@ -1,2 +1,0 @@
-// The transaction table of an accepted log.
-pub mod inner;

@@ -1,0 +1,367 @@
+// The transaction table, for callers that know the log to be accepted.
+ghost use mathlib.Core.Path.{_≡_};
+ghost use mathlib.Core.Bool.{true};
+ghost use mathlib.Core.List.{_++_, map};
+ghost use Prim.Native.Nat.{ℕ, _+_, _*_, _/_, _≤_, _<_};
+ghost use lib.ListN.{length, getD, set, take, drop};
+ghost use Rattle.wal.specs.Read.{first};
+ghost use Rattle.wal.specs.Walk.{entries, endOf};
+ghost use Rattle.wal.specs.Prefix.{Met, onward};
+ghost use Rattle.rules.specs.Shape.{isChanging};
+ghost use Rattle.rules.specs.Order.{count, isBegin};
+ghost use Rattle.table.specs.Flat.{stride, flatAfter};
+ghost use Rattle.table.specs.Rows.{blank, rows, Full, Rising, Found};
+ghost use Rattle.table.specs.Telling.{reach, guessed, Orderly, newRow, begunRows, Span, tell, toldBy, Entered, Untold};
+use crate::Row;
+use crate::STRIDE;
+use crate::rows::key_at;
+use crate::rows::put;
+use crate::rows::row_at;
+use crate::rows::sort;
+use crate::rows::sorted;
+use endian::Lsn;
+use endian::TxnNumber;
+use wal::FIRST;
+use wal::Reading;
+use wal::inner::known_at;
+
+pub mod records;
+
+// The types of entries that are no changes.
+const BEGIN: u8 = 1;
+
+const COMMIT: u8 = 2;
+
+const ROLLBACK: u8 = 3;
+
+// The numbers of a row that rows are sorted by.
+const NUMBER: usize = 0;
+
+const FIRST_LSN: usize = 1;
+
+// How many guesses are kept, one for each remainder of a transaction number.
+pub const GUESSES: usize = 16384;
+
+// The row of transaction t, by halves of the rows; how many rows there are where it has none.
+fn search(a: &[u64], t: TxnNumber) -> usize
+    requires { ⌜ Rising 0 (rows (now a)) ⌝ }
+    ensures { λ r. ⌜ Found (rows (now (a .entry))) (t .0) r ⌝ }
+{
+    let n = a.len() / STRIDE;
+    let mut lo: usize = 0;
+    let mut hi: usize = n;
+    while lo < hi {
+        let mid = lo + (hi - lo) / 2;
+        let k = key_at(a, mid, NUMBER);
+        if k == t.0 {
+            return mid;
+        }
+        if k < t.0 {
+            lo = mid + 1;
+            continue;
+        }
+        hi = mid;
+    }
+    n
+}
+
+// Where the guess for transaction t is kept.
+fn slot(t: TxnNumber) -> usize
+    ensures { λ r. ⌜ r < guessed ⌝ }
+{
+    (t.0 % 16384) as usize
+}
+
+// Keeps row i as the guess for transaction t.
+fn keep(guesses: &mut [u32], t: TxnNumber, i: usize)
+    requires { ⌜ (guessed ≤ length (now guesses)) × (i < 4294967296) ⌝ }
+{
+    let h = slot(t);
+    guesses[h] = i as u32;
+}
+
+// The same as `search`, after the guess that is kept for t; what is found is kept.
+fn find(a: &[u64], guesses: &mut [u32], t: TxnNumber) -> usize
+    requires { ⌜ Rising 0 (rows (now a)) ⌝ }
+    requires { ⌜ (guessed ≤ length (now guesses)) × (length (now a) / stride < 4294967296) ⌝ }
+    ensures { λ r. ⌜ Found (rows (now (a .entry))) (t .0) r ⌝ }
+{
+    let h = slot(t);
+    let g = guesses[h] as usize;
+    if g < a.len() / STRIDE {
+        if key_at(a, g, NUMBER) == t.0 {
+            return g;
+        }
+    }
+    let r = search(a, t);
+    keep(guesses, t, r);
+    r
+}
+
+// Whether an entry of this type is a change.
+fn is_change(kind: u8) -> bool
+    ensures { λ r. ⌜ r ≡ isChanging kind ⌝ }
+{
+    if kind == 4 {
+        return true;
+    }
+    if kind == 5 {
+        return true;
+    }
+    kind == 10
+}
+
+// The row after one more entry of its transaction, of a type.
+fn told(r: Row, kind: u8) -> Row
+    requires { ⌜ r .changes < 18446744073709551615 ⌝ }
+    ensures { λ q. ⌜ q ≡ toldBy kind r ⌝ }
+{
+    let number = r.number;
+    let first = r.first;
+    if kind == COMMIT {
+        return Row {
+            number: number,
+            first: first,
+            outcome: 1,
+            changes: r.changes,
+        };
+    }
+    if kind == ROLLBACK {
+        return Row {
+            number: number,
+            first: first,
+            outcome: 2,
+            changes: r.changes,
+        };
+    }
+    if is_change(kind) {
+        return Row {
+            number: number,
+            first: first,
+            outcome: r.outcome,
+            changes: r.changes + 1,
+        };
+    }
+    r
+}
+
+// Enters an entry of transaction t, after `seen` Begins: the row of a Begin is guessed to be the next one. Says how many Begins were seen then.
+fn enter(a: &mut [u64], guesses: &mut [u32], seen: usize, kind: u8, t: TxnNumber) -> usize
+    requires { ⌜ Rising 0 (rows (now a)) ⌝ }
+    requires { ⌜ ((i : ℕ) → i < length (rows (now a)) → getD (rows (now a)) i blank .changes < 18446744073709551615) ⌝ }
+    requires { ⌜ Full (now a) × (guessed ≤ length (now guesses)) × (length (now a) / stride < 4294967296) × (seen < 4294967296) ⌝ }
+    ensures { λ _. ⌜ Entered (rows (now (a .entry))) kind (t .0) (rows (now (a .exit))) ⌝ }
+    ensures { λ r. ⌜ r ≤ seen + 1 ⌝ }
+{
+    if t.0 == 0 {
+        return seen;
+    }
+    if kind == BEGIN {
+        keep(guesses, t, seen);
+        return seen + 1;
+    }
+    let j = find(a, guesses, t);
+    if a.len() / STRIDE <= j {
+        return seen;
+    }
+    let r = row_at(a, j);
+    put(a, j, told(r, kind));
+    seen
+}
+
+// Enters the entries from a place on.
+fn enter_all(log: &[u8], from: usize, end: usize, a: &mut [u64], guesses: &mut [u32])
+    requires { ⌜ Orderly (now log) ⌝ }
+    requires { ⌜ Met (now log) from ⌝ }
+    requires { ⌜ (endOf (now log) ≡ end) × (length (now log) < reach) ⌝ }
+    requires { ⌜ Untold (now log) from (rows (now a)) ⌝ }
+    requires { ⌜ Full (now a) × (guessed ≤ length (now guesses)) × (length (now a) / stride < 4294967296) ⌝ }
+    ensures { λ _. ⌜ rows (now (a .exit)) ≡ map (tell (entries (now (log .entry)))) (rows (now (a .entry))) ⌝ }
+{
+    let mut seen: usize = 0;
+    let mut at = from;
+    loop {
+        let Reading::Whole(e) = known_at(log, at, end) else {
+            return;
+        };
+        let t = e.txn;
+        seen = enter(a, guesses, seen, e.kind, t);
+        at = at + e.length;
+    }
+}
+
+// How many Begins were taken, and where the next one stands, or the end.
+pub struct Taken {
+    pub count: usize,
+    pub next: usize,
+}
+
+// Puts a row for each Begin from a place on, as long as there is room.
+fn begins(log: &[u8], from: usize, end: usize, a: &mut [u64]) -> Taken
+    requires { ⌜ Met (now log) from ⌝ }
+    requires { ⌜ endOf (now log) ≡ end ⌝ }
+    requires { ⌜ Full (now a) ⌝ }
+    ensures { λ r. ⌜ Span (now (log .entry)) from (length (now (a .entry)) / stride) (r .count) (r .next) ⌝ }
+    ensures { λ r. ⌜ rows (now (a .exit)) ≡ take (r .count) (begunRows (onward (now (log .entry)) from)) ++ drop (r .count) (rows (now (a .entry))) ⌝ }
+{
+    let room = a.len() / STRIDE;
+    let mut n: usize = 0;
+    let mut at = from;
+    loop {
+        let Reading::Whole(e) = known_at(log, at, end) else {
+            return Taken { count: n, next: at };
+        };
+        if e.kind != BEGIN {
+            at = at + e.length;
+            continue;
+        }
+        if n == room {
+            return Taken { count: n, next: at };
+        }
+        let t = e.txn;
+        let l = e.lsn;
+        put(
+            a,
+            n,
+            Row {
+                number: t,
+                first: l,
+                outcome: 0,
+                changes: 0,
+            },
+        );
+        n += 1;
+        at = at + e.length;
+    }
+}
+
+// Tells the rows of Begins from a place on by all entries, in any order of their numbers.
+fn settle_sorted(log: &[u8], from: usize, end: usize, a: &mut [u64], guesses: &mut [u32])
+    requires { ⌜ Orderly (now log) ⌝ }
+    requires { ⌜ Met (now log) from ⌝ }
+    requires { ⌜ (endOf (now log) ≡ end) × (length (now log) < reach) ⌝ }
+    requires { ⌜ rows (now a) ≡ take (length (now a) / stride) (begunRows (onward (now log) from)) ⌝ }
+    requires { ⌜ Full (now a) × (guessed ≤ length (now guesses)) × (length (now a) / stride < 4294967296) ⌝ }
+    ensures { λ _. ⌜ rows (now (a .exit)) ≡ map (tell (entries (now (log .entry)))) (rows (now (a .entry))) ⌝ }
+{
+    sort(a, NUMBER);
+    enter_all(log, from, end, a, guesses);
+    sort(a, FIRST_LSN);
+}
+
+// The same; numbers that rise need no sort.
+fn settle(log: &[u8], from: usize, end: usize, a: &mut [u64], guesses: &mut [u32])
+    requires { ⌜ Orderly (now log) ⌝ }
+    requires { ⌜ Met (now log) from ⌝ }
+    requires { ⌜ (endOf (now log) ≡ end) × (length (now log) < reach) ⌝ }
+    requires { ⌜ rows (now a) ≡ take (length (now a) / stride) (begunRows (onward (now log) from)) ⌝ }
+    requires { ⌜ Full (now a) × (guessed ≤ length (now guesses)) × (length (now a) / stride < 4294967296) ⌝ }
+    ensures { λ _. ⌜ rows (now (a .exit)) ≡ map (tell (entries (now (log .entry)))) (rows (now (a .entry))) ⌝ }
+{
+    if sorted(a, NUMBER) {
+        enter_all(log, from, end, a, guesses);
+        return;
+    }
+    settle_sorted(log, from, end, a, guesses);
+}
+
+// The rows of as many Begins from a place on as there is room for, in log order.
+pub fn block(log: &[u8], from: usize, end: usize, a: &mut [u64], guesses: &mut [u32]) -> Taken
+    requires { ⌜ Orderly (now log) ⌝ }
+    requires { ⌜ Met (now log) from ⌝ }
+    requires { ⌜ (endOf (now log) ≡ end) × (length (now log) < reach) ⌝ }
+    requires { ⌜ Full (now a) × (guessed ≤ length (now guesses)) ⌝ }
+    ensures { λ r. ⌜ Span (now (log .entry)) from (length (now (a .entry)) / stride) (r .count) (r .next) ⌝ }
+    ensures { λ r. ⌜ rows (now (a .exit)) ≡ map (tell (entries (now (log .entry)))) (take (r .count) (begunRows (onward (now (log .entry)) from))) ++ drop (r .count) (rows (now (a .entry))) ⌝ }
+{
+    let t = begins(log, from, end, a);
+    let cut = STRIDE * t.count;
+    settle(log, from, end, &mut a[..cut], guesses);
+    t
+}
+
+// Puts row n for a Begin.
+fn begin_row(a: &mut [u64], guesses: &mut [u32], n: usize, t: TxnNumber, l: Lsn)
+    requires { ⌜ Full (now a) × (guessed ≤ length (now guesses)) × (n < length (now a) / stride) × (n < 4294967296) ⌝ }
+    ensures { λ _. ⌜ rows (now (a .exit)) ≡ set (rows (now (a .entry))) n (newRow t l) ⌝ }
+{
+    put(
+        a,
+        n,
+        Row {
+            number: t,
+            first: l,
+            outcome: 0,
+            changes: 0,
+        },
+    );
+    keep(guesses, t, n);
+}
+
+// Enters an entry into the first n rows.
+fn enter_front(a: &mut [u64], n: usize, guesses: &mut [u32], kind: u8, t: TxnNumber)
+    requires { ⌜ Rising 0 (take n (rows (now a))) ⌝ }
+    requires { ⌜ ((i : ℕ) → i < length (take n (rows (now a))) → getD (take n (rows (now a))) i blank .changes < 18446744073709551615) ⌝ }
+    requires { ⌜ (n ≤ length (now a) / stride) × (guessed ≤ length (now guesses)) × (n < 4294967296) ⌝ }
+    ensures { λ _. ⌜ Entered (take n (rows (now (a .entry)))) kind (t .0) (take n (rows (now (a .exit)))) ⌝ }
+    ensures { λ _. ⌜ drop n (rows (now (a .exit))) ≡ drop n (rows (now (a .entry))) ⌝ }
+{
+    let cut = STRIDE * n;
+    enter(&mut a[..cut], guesses, n, kind, t);
+}
+
+// The rows of all Begins, told by all entries, in one walk, as long as their numbers rise. Says whether they do.
+fn rising(log: &[u8], end: usize, a: &mut [u64], guesses: &mut [u32]) -> bool
+    requires { ⌜ Orderly (now log) ⌝ }
+    requires { ⌜ (endOf (now log) ≡ end) × (length (now log) < reach) × (length (begunRows (entries (now log))) ≤ length (now a) / stride) ⌝ }
+    requires { ⌜ Full (now a) × (guessed ≤ length (now guesses)) ⌝ }
+    ensures { λ r. ⌜ (r ≡ true → rows (now (a .exit)) ≡ map (tell (entries (now (log .entry)))) (begunRows (entries (now (log .entry)))) ++ drop (length (begunRows (entries (now (log .entry))))) (rows (now (a .entry)))) ⌝ }
+    ensures { λ _. ⌜ drop (length (begunRows (entries (now (log .entry))))) (rows (now (a .exit))) ≡ drop (length (begunRows (entries (now (log .entry))))) (rows (now (a .entry))) ⌝ }
+{
+    let mut n: usize = 0;
+    let mut last: u64 = 0;
+    let mut at = FIRST;
+    loop {
+        let Reading::Whole(e) = known_at(log, at, end) else {
+            return true;
+        };
+        let t = e.txn;
+        if e.kind != BEGIN {
+            enter_front(a, n, guesses, e.kind, t);
+            at = at + e.length;
+            continue;
+        }
+        if t.0 <= last {
+            return false;
+        }
+        let l = e.lsn;
+        begin_row(a, guesses, n, t, l);
+        last = t.0;
+        n += 1;
+        at = at + e.length;
+    }
+}
+
+// The rows of all Begins, told by all entries.
+fn fill_rows(log: &[u8], end: usize, a: &mut [u64], guesses: &mut [u32])
+    requires { ⌜ Orderly (now log) ⌝ }
+    requires { ⌜ (endOf (now log) ≡ end) × (length (now log) < reach) × (length (begunRows (entries (now log))) ≤ length (now a) / stride) ⌝ }
+    requires { ⌜ Full (now a) × (guessed ≤ length (now guesses)) ⌝ }
+    ensures { λ _. ⌜ rows (now (a .exit)) ≡ map (tell (entries (now (log .entry)))) (begunRows (entries (now (log .entry)))) ++ drop (length (begunRows (entries (now (log .entry))))) (rows (now (a .entry))) ⌝ }
+{
+    if rising(log, end, a, guesses) {
+        return;
+    }
+    block(log, FIRST, end, a, guesses);
+}
+
+// Fills the front of a table with the records of an accepted log's transactions.
+pub fn fill_flat(log: &[u8], end: usize, table: &mut [u64], guesses: &mut [u32])
+    requires { ⌜ Orderly (now log) ⌝ }
+    requires { ⌜ (endOf (now log) ≡ end) × (length (now log) < reach) × (count isBegin (entries (now log)) ≤ length (now table) / stride) ⌝ }
+    requires { ⌜ guessed ≤ length (now guesses) ⌝ }
+    ensures { λ _. ⌜ now (table .exit) ≡ flatAfter (entries (now (log .entry))) (now (table .entry)) ⌝ }
+{
+    let cut = STRIDE * (table.len() / STRIDE);
+    fill_rows(log, end, &mut table[..cut], guesses);
+}
