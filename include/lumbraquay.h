@@ -5,9 +5,9 @@
  * None allocates, does input or output, keeps a pointer or has state of its own, so calls on different buffers may run
  * at the same time. Each needs under 1 MiB of stack.
  *
- * Buffers. A buffer is a pointer and its length: in bytes, or for table, rows and out in numbers. Where the length is 0
- * the pointer is not looked at and may be NULL. A buffer that is written (pages of lq_recover, table, rows, map,
- * area, out) overlaps no other. A mark is a pointer to 16 bytes, never NULL.
+ * Buffers. A buffer is a pointer and its length: in bytes, or for table, rows, list and out in numbers. Where the length
+ * is 0 the pointer is not looked at and may be NULL. A buffer that is written (pages of lq_recover and lq_repair, table,
+ * rows, map, area, out) overlaps no other. A mark is a pointer to 16 bytes, never NULL.
  *
  * Answers. A function writes its answer to out, one number after another in the order of the names below, but no more
  * than out_len of them; what out has behind them stays. Later versions may add numbers at the end of an answer and
@@ -39,11 +39,11 @@ uint32_t lq_version(void);
 
 /* The refusals: number, name and meaning of each. The first that holds in this order is given: 1, 2, 3; then entry by
  * entry 4 to 10 in turn; then page by page 11, 17, 18, 19 and 12 in turn; then 13, the earliest entry; then 14, the
- * lowest page; then 15 or 16. 34 to 38 are given of a catalog payload alone, 27 to 33 of a summary. The place of 4 to 10
- * and 13 is the entry's offset in the log; of 11, 12, 14, 17 and 18 the page's index; of 19 the offset in the pages of
- * what breaks the rule, 16,384 x index + 10 for an item count over 4,080, + 32 for the free start, + 34 for the free
- * end, + 64 + 4 x k for slot k; else 0. A summary is refused at its first number at fault, by the lowest of 28 to 32
- * that fits it, then by 33; the place is the offset in the summary. */
+ * lowest page; then 15 or 16. Of double-write files 1, then 22 to 26 in turn; 27 to 33 are given of a summary, 34 to 38
+ * of a catalog payload alone. The place of 4 to 10 and 13 is the entry's offset in the log; of 11, 12, 14, 17 and 18 the
+ * page's index; of 19 the offset in the pages of what breaks the rule, 16,384 x index + 10 for an item count over 4,080,
+ * + 32 for the free start, + 34 for the free end, + 64 + 4 x k for slot k; else 0. A summary is refused at its first
+ * number at fault, by the lowest of 28 to 32 that fits it, then by 33; the place is the offset in the summary. */
 #define LQ_EACH_REFUSAL(X) \
     X(0, LQ_DONE, "done") \
     X(1, LQ_PAGE_AREA, "the page bytes are no multiple of 16,384, or there are over 4,096 pages") \
@@ -66,6 +66,13 @@ uint32_t lq_version(void);
     X(17, LQ_PAGE_ID, "a page has another id than its index") \
     X(18, LQ_PAGE_CHECKSUM, "a page's checksum is not that of its body") \
     X(19, LQ_PAGE_SLOTS, "a data page breaks a rule of slots: its item count, free start, free end or a slot is wrong") \
+    X(22, LQ_DOUBLEWRITE_HEADER, "the double-write file does not start with AXMDBLWR, is not of version 1 or is not " \
+      "as long as its slot count says") \
+    X(23, LQ_DOUBLEWRITE_CHECKSUM, "the double-write file's checksum is not that of its header and slots") \
+    X(24, LQ_DOUBLEWRITE_MARK, "the double-write file does not end with its mark") \
+    X(25, LQ_DOUBLEWRITE_PAGES, "the double-write file names a page twice or one that is not there, or the list of " \
+      "pages to write does not strictly rise or names one that is not there") \
+    X(26, LQ_DOUBLEWRITE_SHORT, "the lent area is too short for the double-write file") \
     X(27, LQ_SUMMARY_AREA, "the lent area is too short for the summary") \
     X(28, LQ_SUMMARY_ENDS_EARLY, "a summary ends before a number that it must have") \
     X(29, LQ_SUMMARY_SPELLING, "a number of a summary has more groups than the fewest, or over 64 bits") \
@@ -288,6 +295,51 @@ enum lq_free_map_answer {
     LQ_FREE_MAP_FREE = 2 /* free pages */
 };
 #define LQ_FREE_MAP_NUMBERS 3
+
+/* Double-write files (.dw): copies of pages that were written before the pages themselves. A header of 16 bytes has the
+ * bytes "AXMDBLWR", the version 1 and the count of slots, four bytes each; a slot of 16,392 bytes has a page's id and the
+ * page; behind the slots stand the CRC32c of all before it and the mark DEADBEEF. */
+#define LQ_DOUBLEWRITE_SLOT_BYTES 16392
+#define LQ_DOUBLEWRITE_BYTES(slots) (24 + (size_t)LQ_DOUBLEWRITE_SLOT_BYTES * (slots)) /* of a file */
+
+/* The slots of a file that is for so many pages. Refuses 1, then 22 to 25. */
+void lq_doublewrite_read(const uint8_t *file, size_t len, uint64_t pages, uint64_t *out, size_t out_len);
+
+enum lq_doublewrite_read_answer {
+    LQ_DOUBLEWRITE_READ_NUMBER = 0,
+    LQ_DOUBLEWRITE_READ_PLACE = 1,
+    LQ_DOUBLEWRITE_READ_SLOTS = 2
+};
+#define LQ_DOUBLEWRITE_READ_NUMBERS 3
+
+/* The page that a slot of a file names; 0 past its slots, or where its header or size is wrong. It looks at nothing else
+ * of the file: read it first. */
+uint64_t lq_doublewrite_id(const uint8_t *file, size_t len, uint64_t slot);
+
+/* Restores each page whose body checksum is wrong from its copy in the file, where that is a good page with its id; every
+ * other page keeps its bytes. Refuses 1, then 22 to 25. Comes before lq_recover. A run that was broken off between pages
+ * may simply be repeated. */
+void lq_repair(uint64_t magic, uint8_t *pages, size_t pages_len, const uint8_t *file, size_t file_len, uint64_t *out,
+               size_t out_len);
+
+enum lq_repair_answer {
+    LQ_REPAIR_NUMBER = 0,
+    LQ_REPAIR_PLACE = 1,
+    LQ_REPAIR_RESTORED = 2 /* pages */
+};
+#define LQ_REPAIR_NUMBERS 3
+
+/* Writes the file of a strictly rising list of pages to area, which takes LQ_DOUBLEWRITE_BYTES(list_len); later bytes of
+ * it stay. Refuses 1; then 25 of the list; then 26. */
+void lq_doublewrite_write(const uint8_t *pages, size_t pages_len, const uint64_t *list, size_t list_len, uint8_t *area,
+                          size_t area_len, uint64_t *out, size_t out_len);
+
+enum lq_doublewrite_write_answer {
+    LQ_DOUBLEWRITE_WRITE_NUMBER = 0,
+    LQ_DOUBLEWRITE_WRITE_PLACE = 1,
+    LQ_DOUBLEWRITE_WRITE_LENGTH = 2 /* bytes written */
+};
+#define LQ_DOUBLEWRITE_WRITE_NUMBERS 3
 
 /* The payload of a catalog's table row: table id u32, root page u64, schema length u8 and bytes, name length u8 and
  * bytes, then nothing, one layout byte, or the layout byte and a u64 schema version. Missing parts mean heap and

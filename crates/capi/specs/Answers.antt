@@ -21,6 +21,8 @@ use Rattle.refusals.specs.declared.Written.{Written}
 use Rattle.page.specs.declared.NextRow.{NextRow}
 use Rattle.page.specs.declared.RowList.{RowList}
 use Rattle.page.specs.declared.NextRow.the-variants.{Refused, At, NoMore}
+use Rattle.doublewrite.specs.declared.Contents.{Contents}
+use Rattle.doublewrite.specs.declared.Restored.{Restored}
 use Rattle.catalog.specs.declared.TableRow.{TableRow}
 use Rattle.intake.specs.declared.Order.{Order}
 use Rattle.intake.specs.declared.FoundOrder.{FoundOrder}
@@ -110,6 +112,16 @@ freeMapNumbers magic pages map =
     let v = mapVerdict magic pages map in
     v .number ∷ v .place ∷ freeCount magic pages map ∷ []
 
+-- ---- double-write files
+
+-- lq_doublewrite_read: number, place, slots
+abbrev pub contentsNumbers : Contents → List ℕ
+contentsNumbers c = c .verdict .number ∷ c .verdict .place ∷ c .slots ∷ []
+
+-- lq_repair: number, place, pages restored
+abbrev pub restoredNumbers : Restored → List ℕ
+restoredNumbers r = r .verdict .number ∷ r .verdict .place ∷ r .count ∷ []
+
 -- ---- the catalog
 
 -- lq_table_read, lq_table_read_older: number, place, table id, root page, offset and length of the schema and of the name in the payload, layout, version
@@ -117,7 +129,7 @@ abbrev pub tableNumbers : TableRow → List ℕ
 tableNumbers t =
     t .verdict .number ∷ t .verdict .place ∷ t .table ∷ t .root .0 ∷ t .schema .at ∷ t .schema .length ∷ t .name .at ∷ t .name .length ∷ t .layout ∷ t .version ∷ []
 
--- lq_table_write, lq_summary_write: number, place, length written
+-- lq_doublewrite_write, lq_table_write, lq_summary_write: number, place, length written
 abbrev pub writtenNumbers : Written → List ℕ
 writtenNumbers w = w .verdict .number ∷ w .verdict .place ∷ w .length ∷ []
 

@@ -8,11 +8,14 @@ ghost use Prim.Native.Nat.{_/_};
 ghost use lib.ListN.{length};
 ghost use Rattle.page.specs.Rows.{visibleRows, cancelledRows, numbersPerRow, rowList, rowsAfter};
 ghost use Rattle.page.specs.FreeMap.{mapAfter};
+ghost use Rattle.doublewrite.specs.File.{contentsOf, idOf};
+ghost use Rattle.doublewrite.specs.Repair.{repairOf, pagesAfter};
+ghost use Rattle.doublewrite.specs.Write.{writtenOf, fileAfter};
 ghost use Rattle.catalog.specs.TableRows.{rowOf, olderRowOf, writeAnswer, areaAfter};
 ghost use Rattle.catalog.specs.Search.{tableFound};
 ghost use Rattle.summary.specs.Summary.{numberedRow, stepOf, summaryOf, summaryWritten, summaryAfter};
 ghost use Rattle.intake.specs.Orders.{markOf, orderFound, ordersRepeated};
-ghost use Rattle.capi.specs.Answers.{version, given, openNumbers, stepNumbers, kindForward, kindBackward, forwardNumbers, backwardNumbers, verifyNumbers, verifyFromNumbers, rowNumbers, nextVisibleNumbers, listNumbers, freeMapNumbers, tableNumbers, writtenNumbers, answerNumbers, locatedNumbers, readRowNumbers, summaryNumbers, numberedNumbers, summaryStepNumbers, foundNumbers, repeatedNumbers};
+ghost use Rattle.capi.specs.Answers.{version, given, openNumbers, stepNumbers, kindForward, kindBackward, forwardNumbers, backwardNumbers, verifyNumbers, verifyFromNumbers, rowNumbers, nextVisibleNumbers, listNumbers, freeMapNumbers, contentsNumbers, restoredNumbers, tableNumbers, writtenNumbers, answerNumbers, locatedNumbers, readRowNumbers, summaryNumbers, numberedNumbers, summaryStepNumbers, foundNumbers, repeatedNumbers};
 ghost use Rattle.recovery.specs.Flat.{recoverFlat};
 use catalog::TableRow;
 use endian::Lsn;
@@ -250,6 +253,65 @@ pub extern "C" fn lq_free_map(magic: u64, pages: &[u8], map: &mut [u8], out: &mu
 {
     let made = page::free_map(magic, pages, map);
     give(&[made.verdict.number, made.verdict.place, made.free], out);
+}
+
+// Reads a double-write file for so many pages: number, place and count of slots.
+#[no_mangle]
+pub extern "C" fn lq_doublewrite_read(file: &[u8], pages: u64, out: &mut [u64])
+    ensures { λ _. ⌜ now (out .exit) ≡ given (contentsNumbers (contentsOf (now (file .entry)) pages)) (now (out .entry)) ⌝ }
+{
+    let contents = doublewrite::read(file, pages as usize);
+    give(
+        &[
+            contents.verdict.number,
+            contents.verdict.place,
+            contents.slots,
+        ],
+        out,
+    );
+}
+
+// The page that a slot of a double-write file names.
+#[no_mangle]
+pub extern "C" fn lq_doublewrite_id(file: &[u8], slot: u64) -> u64
+    ensures { λ r. ⌜ r ≡ idOf (now (file .entry)) slot ⌝ }
+{
+    let id = doublewrite::slot_id(file, slot as usize);
+    id.0
+}
+
+// Restores torn pages from a double-write file: number, place and count of pages restored.
+#[no_mangle]
+pub extern "C" fn lq_repair(magic: u64, pages: &mut [u8], file: &[u8], out: &mut [u64])
+    ensures { λ _. ⌜ now (out .exit) ≡ given (restoredNumbers (repairOf magic (now (pages .entry)) (now (file .entry)))) (now (out .entry)) ⌝ }
+    ensures { λ _. ⌜ now (pages .exit) ≡ pagesAfter magic (now (pages .entry)) (now (file .entry)) ⌝ }
+{
+    let restored = doublewrite::repair(magic, pages, file);
+    give(
+        &[
+            restored.verdict.number,
+            restored.verdict.place,
+            restored.count,
+        ],
+        out,
+    );
+}
+
+// Writes the double-write file of a list of pages: number, place and length.
+#[no_mangle]
+pub extern "C" fn lq_doublewrite_write(pages: &[u8], list: &[u64], area: &mut [u8], out: &mut [u64])
+    ensures { λ _. ⌜ now (out .exit) ≡ given (writtenNumbers (writtenOf (now (pages .entry)) (now (list .entry)) (now (area .entry)))) (now (out .entry)) ⌝ }
+    ensures { λ _. ⌜ now (area .exit) ≡ fileAfter (now (pages .entry)) (now (list .entry)) (now (area .entry)) ⌝ }
+{
+    let written = doublewrite::write(pages, list, area);
+    give(
+        &[
+            written.verdict.number,
+            written.verdict.place,
+            written.length as u64,
+        ],
+        out,
+    );
 }
 
 // The numbers of a table's row.

@@ -16,7 +16,7 @@ use Rattle.page.specs.Good.{Good, TupleGood}
 use Rattle.page.proofs.Fields.{count-back, lsn-back, type-back}
 use Rattle.page.proofs.Slots.{length-packed, slot-back}
 use Rattle.page.proofs.Goodness.{packed-good, packed-bytes, body-bytes}
-use Rattle.rules.proofs.Area.{page-first, page-later}
+use Rattle.page.proofs.Areas.{page-first, page-later}
 use Rattle.cases.specs.Build.{Page, page, tuple, headOf, magic, pageOf, areaFrom, area}
 use Rattle.cases.proofs.Parts.{tuple-bytes}
 

@@ -247,6 +247,15 @@ felt-completed = felt-all completed says-completed
 pub felt-roomier : HasFelt example lastMoment lastStood roomier
 felt-roomier = felt-all roomier says-roomier
 
+-- and what pages of earlier moments felt
+pub felt-earlier : HasFelt example moment stood completed
+unfolding example topOf
+felt-earlier = record { felt = λ i l d. each i l }
+  where
+    each : (i : ℕ) → i < pagesIn stood → topOf i (drop (length (entries completed)) (loggedIn (take (moment i) steps))) ≡ 0
+    each zero l = rw (says-completed .says)
+    each (suc i) l = rw (says-completed .says)
+
 -- without the zeros it is missing
 pub not-without-zeros : HasFelt example lastMoment lastStood bareCut → ⊥
 unfolding example topOf topOn isOn isChanging numberAt numberOf bytesOf

@@ -44,7 +44,7 @@ rising : Rising example (first ∷ second ∷ []) last
 unfolding example encodedAll encoded unsealed header bytesOf
 rising = (record { floors = refl; records = refl; cuts = lit≤ tt; files = lit≤ tt }, record { floors = refl; records = refl; cuts = lit≤ tt; files = lit≤ tt })
 
-bytes-stood : Bytes stood
+pub bytes-stood : Bytes stood
 bytes-stood = area-bytes (page 7 (c ∷ []) ∷ page 5 (a ∷ []) ∷ []) stood-ok
 
 -- ---- the first run, stopped after page 0

@@ -5,7 +5,7 @@ use mathlib.Core.List.{List}
 use native.Mathlib.Decide.{decLt}
 use native.Mathlib.Omega.{arith}
 use lib.ListN.{length, drop, getD, List·getD-eq-default}
-use lib.Seq.{getD-take, getD-drop, ext-getD}
+use lib.Seq.{getD-take, getD-drop}
 use Rattle.endian.specs.Numbers.{Bytes}
 use Rattle.page.specs.Layout.{pageBytes, pagesIn, pageAt}
 
@@ -29,7 +29,3 @@ module _ (s : List ℕ) (whole : length s % pageBytes ≡ 0) where
             | yes l ↦ rw (in-page s j) (b (j / pageBytes) (in-area j l) .at (j % pageBytes))
             | no l ↦ rw (List·getD-eq-default s 0 {n = j} (omega arith)) (omega arith)
           ]
-
-  -- two areas that agree on every page are the same
-  pub area-same : (t : List ℕ) → length s ≡ length t → ((i : ℕ) → i < pagesIn s → pageAt i s ≡ pageAt i t) → s ≡ t
-  area-same t e h = ext-getD 0 s t e (λ j l. in-page s j ∙ ap (λ (p : List ℕ). getD p (j % pageBytes) 0) (h (j / pageBytes) (in-area j l)) ∙ sym (in-page t j))

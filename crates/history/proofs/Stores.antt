@@ -12,6 +12,7 @@ use Rattle.endian.proofs.Places.{part-same, part-before, part-behind}
 use Rattle.wal.specs.Entry.{Entry}
 use Rattle.wal.specs.Walk.{entries}
 use Rattle.page.specs.Layout.{pageBytes, pagesIn, pageAt}
+use Rattle.page.proofs.Areas.{same-pages}
 use Rattle.page.proofs.Verdicts.{right-size, page-length}
 use Rattle.rules.specs.Lent.{lent}
 use Rattle.rules.specs.Order.{fullAt}
@@ -25,7 +26,6 @@ use Rattle.rules.proofs.Verdicts.{Accepted}
 use Rattle.rules.proofs.Again.{zero-accepted, recover-zero, recover-done, page-after, again}
 use Rattle.history.specs.Demand3.{Mixed}
 use Rattle.history.specs.Night.{store, stored, Has, AllBelow}
-use Rattle.history.proofs.Areas.{area-same}
 
 -- an untouched page keeps every byte
 untouched-kept : (es : List Entry) (i : ℕ) (p : List ℕ) → topOf i es ≡ 0 → mend es i p ≡ p
@@ -128,7 +128,7 @@ module _ (es : List Entry) (P : List ℕ)
       let b = stored-between is P a fresh in
       let s : length (stored es is P) ≡ length P = b .size in
       let n : length (mendedFrom es P (pagesIn P) 0) ≡ pagesIn P * pageBytes = length-mended es P (pagesIn P) 0 (λ j x y. long j (omega arith)) in
-      area-same (stored es is P) (ap (λ (k : ℕ). k % pageBytes) s ∙ whole) (mendedFrom es P (pagesIn P) 0) (omega arith) (λ k l. each k (omega arith))
+      same-pages (pagesIn P) (stored es is P) (mendedFrom es P (pagesIn P) 0) (omega arith) n each
     where
       each : (k : ℕ) → k < pagesIn P → pageAt k (stored es is P) ≡ pageAt k (mendedFrom es P (pagesIn P) 0)
       each k l = go (topOf k es) refl ∙ sym (page-of k l)

@@ -3,25 +3,20 @@
 use mathlib.Core.Path.{_≡_, refl, sym, ap, _∙_}
 use Prim.Native.Nat.{ℕ, zero, suc, _+_, _-_, _*_, _<_}
 use native.Mathlib.Omega.{arith}
-use mathlib.Core.List.{List, append-assoc}
-use lib.ListN.{take, drop, getD, take-append-drop}
-use lib.Seq.{paste, take-take, drop-drop}
+use mathlib.Core.List.{List}
+use lib.ListN.{take, drop, getD}
+use lib.Seq.{paste}
 use borrow.Author.Tests.{lt-ltb, le-ltb}
 use Rattle.wal.specs.Entry.{Entry}
 use Rattle.wal.specs.Walk.{entries, endOf}
 use Rattle.wal.proofs.Prefix.{before-end}
 use Rattle.page.specs.Layout.{pageBytes, pageAt}
+use Rattle.page.proofs.Pasting.{paste-own}
 use Rattle.page.proofs.Verdicts.{page-part}
 use Rattle.rules.specs.Order.{one}
 use Rattle.rules.specs.Mend.{committed, topOf, repacked, unless, mendBy, mend}
 use Rattle.rules.specs.Recover.{isTouched}
 use Rattle.cells.specs.Measure.{LastAt, Lasts}
-
--- a part, stored where it stands
-paste-own : (d : List ℕ) (a n : ℕ) → paste d a (take n (drop a d)) n ≡ d
-paste-own d a n =
-    rw (take-take n n (drop a d) (omega arith), append-assoc (take a d) (take n (drop a d)) (drop (a + n) d), ← drop-drop n a d, take-append-drop n (drop a d))
-    (take-append-drop a d)
 
 module _ (es : List Entry) (i : ℕ) where
   unless-touched : (n : ℕ) (p q : List ℕ) → 0 < n → unless (committed es) es i n p q ≡ q

@@ -12,23 +12,13 @@ use Rattle.endian.specs.Pick.{pick}
 use Rattle.crc32c.specs.Crc.{crc32c}
 use Rattle.page.specs.Layout.{pageBytes, bodyBytes, slotLimit, dataType, lastType, magicOf, typeOf, countOf, crcOf, idOf, freeStartOf, freeEndOf, bodyOf}
 use Rattle.page.specs.Good.{DataGood, Good}
-use Rattle.page.specs.Fault.{slotFaulty, dataFault, faultOf}
+use Rattle.page.specs.Fault.{slotFaulty, dataFault, faultOf, isSound}
 use Rattle.page.specs.declared.Fault.{Fault}
-use Rattle.page.specs.declared.Fault.the-variants.{Sound, MagicOrType, Id, Checksum, Count, FreeStart, FreeEnd, Slot}
+use Rattle.page.specs.declared.Fault.the-variants.{Sound, MagicOrType, Id, Checksum, Count, FreeStart, FreeEnd}
 use Rattle.page.proofs.Picks.{never}
 use Rattle.page.proofs.SlotLaws.{good-fine, share-apart, apart-share, earlier-none, none-earlier, faulty-not, not-faulty, slots-sound, sound-slots}
 
 -- ---- one page
-
-abbrev pub isSound : Fault → Bool
-isSound Sound = true
-isSound MagicOrType = false
-isSound Id = false
-isSound Checksum = false
-isSound Count = false
-isSound FreeStart = false
-isSound FreeEnd = false
-isSound (Slot k) = false
 
 -- a test that was passed, where failing it is a fault
 passed : (t : Bool) (a b : Fault) → isSound b ≡ false → pick t a b ≡ Sound → (t ≡ true) × (a ≡ Sound)

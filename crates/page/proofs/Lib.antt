@@ -4,6 +4,7 @@ pub mod Tables
 pub mod Goodness
 pub mod Writing
 pub mod Pasting
+pub mod Areas
 pub mod Packing
 pub mod Listing
 pub mod ListedRows

@@ -5,8 +5,8 @@ use Prim.Native.Nat.{ℕ, _+_, _-_, _*_, _%_, _≤_, _<_}
 use native.Mathlib.Decide.{decLe}
 use native.Mathlib.Omega.{arith}
 use mathlib.Core.List.{List, [], _∷_, _++_, append-assoc, append-nil}
-use lib.ListN.{length, take, drop, set, length-append, length-take, length-drop, drop-of-length-le}
-use lib.Seq.{paste, take-length, take-all, drop-drop, take-add, drop-at, length-take-le}
+use lib.ListN.{length, take, drop, set, length-append, length-take, length-drop, take-append-drop, drop-of-length-le}
+use lib.Seq.{paste, take-length, take-all, take-take, drop-drop, take-add, drop-at, length-take-le}
 use Rattle.endian.specs.Numbers.{bytesOf}
 use Rattle.endian.proofs.Numbers.{length-bytesOf}
 use Rattle.endian.proofs.Stores.{Stored, first, more, number}
@@ -89,6 +89,12 @@ slot-stored d t w1 w2 w3 k top off r eo e1 e2 e3 =
     rw (e3, s2 .is, eo)
 
 -- ---- a page that was lent
+
+-- a part, stored where it stands
+pub paste-own : (d : List ℕ) (a n : ℕ) → paste d a (take n (drop a d)) n ≡ d
+paste-own d a n =
+    rw (take-take n n (drop a d) (omega arith), append-assoc (take a d) (take n (drop a d)) (drop (a + n) d), ← drop-drop n a d, take-append-drop n (drop a d))
+    (take-append-drop a d)
 
 pub page-stored : (d y w : List ℕ) (a n : ℕ) → n ≡ pageBytes → a + pageBytes ≤ length d → length w ≡ pageBytes → y ≡ paste (take n (drop a d)) 0 w (length w)
     → take a d ++ (y ++ drop n (drop a d)) ≡ paste d a w pageBytes

@@ -17,12 +17,12 @@ use Rattle.page.specs.Layout.{pageBytes, pageLimit, pagesIn, pageAt, lsn
 use Rattle.page.specs.Good.{Good}
 use Rattle.refusals.specs.Verdict.{verdict, accepted, _then_}
 use Rattle.refusals.proofs.Then.{then-refused, then-accepted, then-zero}
-use Rattle.page.specs.Fault.{faultOf, faultVerdict, neverLate, pageVerdict, firstBad, sizeWrong, verdictFrom}
+use Rattle.page.specs.Fault.{faultOf, isSound, faultVerdict, neverLate, pageVerdict, firstBad, sizeWrong, verdictFrom}
 use Rattle.page.specs.declared.Fault.{Fault}
 use Rattle.page.specs.declared.Fault.the-variants.{Sound, MagicOrType, Id, Checksum, Count, FreeStart, FreeEnd, Slot}
 use Rattle.refusals.specs.declared.Verdict.{Verdict}
 use Rattle.page.proofs.Picks.{never, cleared}
-use Rattle.page.proofs.FaultLaws.{isSound, sound-good, good-sound}
+use Rattle.page.proofs.FaultLaws.{sound-good, good-sound}
 
 -- ---- page i of an area
 

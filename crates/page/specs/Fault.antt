@@ -72,6 +72,17 @@ faultOf magic index p =
     MagicOrType)
     MagicOrType
 
+-- no fault
+abbrev pub isSound : Fault → Bool
+isSound Sound = true
+isSound MagicOrType = false
+isSound Id = false
+isSound Checksum = false
+isSound Count = false
+isSound FreeStart = false
+isSound FreeEnd = false
+isSound (Slot k) = false
+
 -- the slot that a fault names; 0 where it names none
 abbrev pub slotIn : Fault → ℕ
 slotIn Sound = 0

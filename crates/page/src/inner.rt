@@ -115,7 +115,7 @@ pub fn slot_len(page: &[u8], k: usize) -> usize
 }
 
 // The checksum of the page's body.
-fn checksum(t: &Tables, page: &[u8]) -> u32
+pub fn checksum(t: &Tables, page: &[u8]) -> u32
     requires { ⌜ Tables (now t) ⌝ }
     requires { ⌜ length (now page) ≡ pageBytes ⌝ }
     ensures { λ r. ⌜ r ≡ crcOfBytes (bodyOf (now (page .entry))) ⌝ }

@@ -34,7 +34,7 @@ const FLAGS_AT: usize = 9;
 
 const COUNT_AT: usize = 10;
 
-const CRC_AT: usize = 12;
+pub const CRC_AT: usize = 12;
 
 const ID_AT: usize = 16;
 

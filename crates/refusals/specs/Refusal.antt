@@ -77,6 +77,26 @@ pageChecksum = 18
 abbrev pub pageSlots : ℕ
 pageSlots = 19
 
+-- wrong header or size of a double-write file
+abbrev pub doublewriteHeader : ℕ
+doublewriteHeader = 22
+
+-- wrong checksum of a double-write file
+abbrev pub doublewriteChecksum : ℕ
+doublewriteChecksum = 23
+
+-- wrong mark at the end of a double-write file
+abbrev pub doublewriteMark : ℕ
+doublewriteMark = 24
+
+-- page of a double-write file not lent or named twice; list of pages that does not strictly rise or names one not lent
+abbrev pub doublewritePages : ℕ
+doublewritePages = 25
+
+-- area too short for the double-write file
+abbrev pub doublewriteShort : ℕ
+doublewriteShort = 26
+
 -- area too short for the summary
 abbrev pub summaryArea : ℕ
 summaryArea = 27

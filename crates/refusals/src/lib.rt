@@ -37,6 +37,16 @@ pub const PAGE_CHECKSUM: u64 = 18;
 
 pub const PAGE_SLOTS: u64 = 19;
 
+pub const DOUBLEWRITE_HEADER: u64 = 22;
+
+pub const DOUBLEWRITE_CHECKSUM: u64 = 23;
+
+pub const DOUBLEWRITE_MARK: u64 = 24;
+
+pub const DOUBLEWRITE_PAGES: u64 = 25;
+
+pub const DOUBLEWRITE_SHORT: u64 = 26;
+
 pub const SUMMARY_AREA: u64 = 27;
 
 pub const SUMMARY_ENDS_EARLY: u64 = 28;

@@ -1,24 +1,16 @@
--- A page area page by page: the pages of a mended area, and two areas that agree on every page.
+-- A mended page area page by page, and two that are mended alike.
 -- Assumes nothing.
-use mathlib.Core.Path.{_≡_, refl, sym, ap, ap₂, _∙_}
-use Prim.Native.Nat.{ℕ, zero, suc, _+_, _*_, _-_, _/_, _%_, _≤_, _<_}
+use mathlib.Core.Path.{_≡_, refl, ap, ap₂, _∙_}
+use Prim.Native.Nat.{ℕ, zero, suc, _+_, _*_, _≤_, _<_}
 use native.Mathlib.Omega.{arith}
 use native.Mathlib.Nat.{add-zero}
-use mathlib.Core.List.{List, [], _∷_, _++_}
-use lib.ListN.{length, take, drop, length-append, length-take, take-append-drop}
-use lib.Seq.{take-at, drop-at, drop-drop, take-all}
+use mathlib.Core.List.{List, _++_}
+use lib.ListN.{length, length-append}
 use Rattle.wal.specs.Entry.{Entry}
 use Rattle.page.specs.Layout.{pageBytes, pageAt}
+use Rattle.page.proofs.Areas.{page-first, page-later}
 use Rattle.rules.specs.Mend.{mend}
 use Rattle.rules.specs.Recover.{mendedFrom}
-
-pub page-first : (m rest : List ℕ) → length m ≡ pageBytes → pageAt 0 (m ++ rest) ≡ m
-page-first m rest e = take-at m rest pageBytes e
-
-pub page-later : (j : ℕ) (m rest : List ℕ) → length m ≡ pageBytes → pageAt (suc j) (m ++ rest) ≡ pageAt j rest
-page-later j m rest e =
-    let a : suc j * pageBytes ≡ pageBytes + j * pageBytes = omega arith in
-    ap (take pageBytes) (ap (λ (n : ℕ). drop n (m ++ rest)) a ∙ sym (drop-drop (j * pageBytes) pageBytes (m ++ rest)) ∙ ap (drop (j * pageBytes)) (drop-at m rest pageBytes e))
 
 module _ (es : List Entry) (s : List ℕ) where
   -- page j of the n pages from i on, mended

@@ -4,7 +4,7 @@ use generate::{Case, Rng, DATA};
 use oracle::PAGE_BYTES;
 
 use crate::seen::Seen;
-use crate::{catalog, intake, log, pages, recovery, rows, summary};
+use crate::{catalog, doublewrite, intake, log, pages, recovery, rows, summary};
 
 /// A case of more bytes, or of more pairs of slots that might share a byte, gets fewer calls.
 const LIGHT_BYTES: usize = 2_000_000;
@@ -38,8 +38,9 @@ pub fn check(case: &Case, seen: &mut Seen) {
     pages::compare(&mut subject, seen);
     rows::compare(&mut subject, seen);
     recovery::compare(&mut subject, seen);
-    // Last, so that the calls above choose as they did before there were summaries.
+    // Last, in the order in which they came, so that the calls above choose as they did before.
     summary::compare(&mut subject, seen);
+    doublewrite::compare(&mut subject, seen);
 }
 
 /// The pairs of slots on each Data page, all together.

@@ -1,4 +1,7 @@
-//! A buffer lent from the middle of a larger one, so that a write outside of it is seen.
+//! What is lent to a run: a buffer from the middle of a larger one, so that a write outside of it is seen; and pages that
+//! a run left when it was broken off.
+
+use oracle::PAGE_BYTES;
 
 /// How many items stand on each side of a lent buffer, at least.
 const EDGE: usize = 64;
@@ -36,4 +39,15 @@ impl<T: Copy + PartialEq> Lent<T> {
         let kept = edges.all(|item| *item == self.edge);
         (self.whole[self.start..end].to_vec(), kept)
     }
+}
+
+/// Pages of which some are taken from another run.
+pub fn mixture(old: &[u8], new: &[u8], done: impl Fn(usize) -> bool) -> Vec<u8> {
+    let mut mixed = old.to_vec();
+    for (index, page) in mixed.chunks_mut(PAGE_BYTES).enumerate() {
+        if done(index) {
+            page.copy_from_slice(&new[index * PAGE_BYTES..][..PAGE_BYTES]);
+        }
+    }
+    mixed
 }

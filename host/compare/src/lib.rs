@@ -3,6 +3,7 @@
 
 mod catalog;
 mod check;
+mod doublewrite;
 mod intake;
 mod lent;
 mod limits;

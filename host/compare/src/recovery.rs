@@ -8,7 +8,7 @@ use library::{Answer, RECORD_NUMBERS};
 use oracle::{Record, PAGE_BYTES};
 
 use crate::check::Subject;
-use crate::lent::Lent;
+use crate::lent::{mixture, Lent};
 use crate::seen::Seen;
 use crate::twin;
 
@@ -195,17 +195,6 @@ fn by_zeros(seen: &mut Seen, earlier: &Earlier, run: &Left, events: [&'static st
     if earlier.cuts_header() {
         seen.event(in_header);
     }
-}
-
-/// Pages of which some are taken from another run.
-fn mixture(old: &[u8], new: &[u8], mended: impl Fn(usize) -> bool) -> Vec<u8> {
-    let mut mixed = old.to_vec();
-    for (index, page) in mixed.chunks_mut(PAGE_BYTES).enumerate() {
-        if mended(index) {
-            page.copy_from_slice(&new[index * PAGE_BYTES..][..PAGE_BYTES]);
-        }
-    }
-    mixed
 }
 
 /// A run from the same or a shorter cut, with zeros behind it, that was broken off, whole pages old or mended; a run after

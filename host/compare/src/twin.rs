@@ -70,6 +70,22 @@ pub fn free_map(of: oracle::FreeMap) -> library::FreeMap {
     }
 }
 
+pub fn contents(of: oracle::Contents) -> library::Contents {
+    library::Contents {
+        number: of.number,
+        place: of.place,
+        slots: of.slots,
+    }
+}
+
+pub fn repair(of: oracle::Repair) -> library::Repair {
+    library::Repair {
+        number: of.number,
+        place: of.place,
+        restored: of.restored,
+    }
+}
+
 pub fn table(of: oracle::Table) -> library::Table {
     library::Table {
         number: of.number,

@@ -3,6 +3,7 @@
 
 mod case;
 mod catalog;
+mod doublewrite;
 mod draft;
 mod entry;
 mod history;
@@ -22,6 +23,7 @@ mod wild;
 
 pub use case::{case, mutated_by, Case, Earlier, Honest};
 pub use catalog::{catalog, catalog_id, table_payload, Catalog, CatalogRow, TableParts};
+pub use doublewrite::{doublewrite_file, file_kinds, page_list, torn, DoublewriteFile, Torn};
 pub use draft::{Draft, Standing};
 pub use entry::{log_header, Entry};
 pub use entry::{BEGIN, CHECKPOINT, COMMIT, DELETE, INSERT, ROLLBACK, UPDATE};

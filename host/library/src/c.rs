@@ -105,6 +105,37 @@ extern "C" {
         out_len: usize,
     );
 
+    pub fn lq_doublewrite_read(
+        file: *const u8,
+        len: usize,
+        pages: u64,
+        out: *mut u64,
+        out_len: usize,
+    );
+
+    pub fn lq_doublewrite_id(file: *const u8, len: usize, slot: u64) -> u64;
+
+    pub fn lq_repair(
+        magic: u64,
+        pages: *mut u8,
+        pages_len: usize,
+        file: *const u8,
+        file_len: usize,
+        out: *mut u64,
+        out_len: usize,
+    );
+
+    pub fn lq_doublewrite_write(
+        pages: *const u8,
+        pages_len: usize,
+        list: *const u64,
+        list_len: usize,
+        area: *mut u8,
+        area_len: usize,
+        out: *mut u64,
+        out_len: usize,
+    );
+
     pub fn lq_table_read(payload: *const u8, len: usize, out: *mut u64, out_len: usize);
 
     pub fn lq_table_read_older(payload: *const u8, len: usize, out: *mut u64, out_len: usize);

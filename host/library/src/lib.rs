@@ -22,6 +22,12 @@ pub const LOG_HEAD_BYTES: usize = 32;
 /// The bytes of the shortest entry.
 pub const SHORTEST_ENTRY_BYTES: usize = 43;
 
+/// The bytes of a slot of a double-write file: a page's id and the page.
+pub const DOUBLEWRITE_SLOT_BYTES: usize = 16_392;
+
+/// The bytes of a double-write file besides its slots.
+pub const DOUBLEWRITE_FRAME_BYTES: usize = 24;
+
 /// How many numbers of a lent table make one record.
 pub const RECORD_NUMBERS: usize = Record::NAMES.len();
 
@@ -129,6 +135,16 @@ numbers! {
 }
 
 numbers! {
+    /// How many slots a double-write file has.
+    Contents: 3 { number, place, slots }
+}
+
+numbers! {
+    /// How many pages a repair restored.
+    Repair: 3 { number, place, restored }
+}
+
+numbers! {
     /// A table's row as it was read; the names are parts of the payload.
     Table: 10 {
         number, place, table, root, schema_offset, schema_length, name_offset, name_length, layout, version
@@ -187,7 +203,7 @@ macro_rules! verdicts {
     };
 }
 
-verdicts! { Answer Row Visible Listing FreeMap Table Written Summary SummaryRow FoundOrder RepeatedOrders }
+verdicts! { Answer Row Visible Listing FreeMap Contents Repair Table Written Summary SummaryRow FoundOrder RepeatedOrders }
 
 impl Row {
     /// The payload as a part of what was lent.
@@ -365,6 +381,55 @@ pub fn free_map(magic: u64, pages: &[u8], map: &mut [u8]) -> FreeMap {
             pages.len(),
             map.as_mut_ptr(),
             map.len(),
+            out,
+            out_len,
+        )
+    })
+}
+
+/// The bytes of a double-write file of so many slots.
+pub fn doublewrite_bytes(slots: usize) -> usize {
+    DOUBLEWRITE_FRAME_BYTES + DOUBLEWRITE_SLOT_BYTES * slots
+}
+
+/// The slots of a double-write file that is for so many pages. Refuses 1, then 22 to 25.
+pub fn doublewrite_read(file: &[u8], pages: u64) -> Contents {
+    filled(|out, out_len| unsafe {
+        c::lq_doublewrite_read(file.as_ptr(), file.len(), pages, out, out_len)
+    })
+}
+
+/// The page that a slot of a double-write file names; 0 past its slots, or where its header or size is wrong.
+pub fn doublewrite_id(file: &[u8], slot: u64) -> u64 {
+    unsafe { c::lq_doublewrite_id(file.as_ptr(), file.len(), slot) }
+}
+
+/// Restores torn pages from a double-write file. Refuses 1, then 22 to 25; the pages then keep what they hold.
+pub fn repair(magic: u64, pages: &mut [u8], file: &[u8]) -> Repair {
+    filled(|out, out_len| unsafe {
+        c::lq_repair(
+            magic,
+            pages.as_mut_ptr(),
+            pages.len(),
+            file.as_ptr(),
+            file.len(),
+            out,
+            out_len,
+        )
+    })
+}
+
+/// Writes the double-write file of a strictly rising list of pages. Refuses 1, then 25 of the list, then 26; the area
+/// then keeps what it holds.
+pub fn doublewrite_write(pages: &[u8], list: &[u64], area: &mut [u8]) -> Written {
+    filled(|out, out_len| unsafe {
+        c::lq_doublewrite_write(
+            pages.as_ptr(),
+            pages.len(),
+            list.as_ptr(),
+            list.len(),
+            area.as_mut_ptr(),
+            area.len(),
             out,
             out_len,
         )

@@ -62,6 +62,11 @@ refusals! {
     17 PAGE_ID PageIndex "a page has another id than its index";
     18 PAGE_CHECKSUM PageIndex "a page's checksum is not that of its body";
     19 PAGE_SLOTS PageOffset "a data page breaks a rule of slots: its item count, free start, free end or a slot is wrong";
+    22 DOUBLEWRITE_HEADER Nothing "the double-write file does not start with AXMDBLWR, is not of version 1 or is not as long as its slot count says";
+    23 DOUBLEWRITE_CHECKSUM Nothing "the double-write file's checksum is not that of its header and slots";
+    24 DOUBLEWRITE_MARK Nothing "the double-write file does not end with its mark";
+    25 DOUBLEWRITE_PAGES Nothing "the double-write file names a page twice or one that is not there, or the list of pages to write does not strictly rise or names one that is not there";
+    26 DOUBLEWRITE_SHORT Nothing "the lent area is too short for the double-write file";
     27 SUMMARY_AREA Nothing "the lent area is too short for the summary";
     28 SUMMARY_ENDS_EARLY SummaryOffset "a summary ends before a number that it must have";
     29 SUMMARY_SPELLING SummaryOffset "a number of a summary has more groups than the fewest, or over 64 bits";

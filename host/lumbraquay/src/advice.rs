@@ -8,6 +8,7 @@ use library::{Verdict, PAGE_BYTES};
 use crate::args::Parsed;
 use crate::failure::Failure;
 use crate::fault;
+use crate::files::{is_standard, with_ending};
 use crate::found::{after_damage, found, is_page_file, is_swapped, After};
 use crate::input::{head_fields, Log, Pages, Read};
 use crate::json::Json;
@@ -119,6 +120,9 @@ fn advice(verdict: Verdict, read: Read) -> String {
         }
         .to_string();
     }
+    if verdict.number == refusal::DOUBLEWRITE_PAGES && read.list.is_some() {
+        return "name pages that are there, each once, the lower ones first".to_string();
+    }
     let mut parts = vec![match (verdict.number, read.is_catalog) {
         (refusal::PAGE_MAGIC_OR_TYPE, true) => CATALOG_MAGIC_OR_TYPE,
         (number, _) => general(number),
@@ -133,6 +137,7 @@ fn advice(verdict: Verdict, read: Read) -> String {
         parts.push(format!("by its length it may be a page file{order}"));
     }
     parts.extend(read.log.and_then(|log| until(verdict, log)));
+    parts.extend(copies(verdict, read));
     parts.extend(read.pages.and_then(|pages| wrong_magic(verdict, pages)));
     parts.extend(where_others_are(verdict, read).map(str::to_string));
     parts.join("; ")
@@ -157,6 +162,29 @@ fn where_others_are(verdict: Verdict, read: Read) -> Option<&'static str> {
         refusal::PAGE_ID | refusal::PAGE_CHECKSUM | refusal::PAGE_SLOTS
     );
     (of_one_page && !read.all_listed).then_some("`verify --all` lists every bad page")
+}
+
+/// What a double-write file has for a torn page: one that was taken, or one beside the pages.
+fn copies(verdict: Verdict, read: Read) -> Option<String> {
+    let pages = read.pages?;
+    let page = pages.page(fault::bad_page(verdict)?)?;
+    if !fault::is_torn(page) {
+        return None;
+    }
+    if let Some(file) = read.doublewrite {
+        let (file, magic) = (file.path.display(), pages.magic);
+        return Some(format!(
+            "{file} has no good copy of it under magic {magic:#x}"
+        ));
+    }
+    let beside = with_ending(&pages.path, ".dw");
+    if is_standard(&pages.path) || !beside.is_file() {
+        return None;
+    }
+    let beside = beside.display();
+    Some(format!(
+        "{beside} lies beside the pages: `recover` with --dw {beside} restores torn pages from it before it recovers, and `repair` restores them alone"
+    ))
 }
 
 /// How to go on with the log before a damaged entry, and what that leaves out.
@@ -202,6 +230,10 @@ fn general(number: u64) -> &'static str {
         refusal::PAGE_ID => "another page stands here: see that the file was copied whole and in order, or put the page back from a backup or the double-write file",
         refusal::PAGE_CHECKSUM => "the page is torn or damaged: put it back from a backup or the double-write file",
         refusal::PAGE_SLOTS => "the body's checksum is right, so the page was written like this or its header, which has no checksum, is damaged: put it back from a backup or the double-write file",
+        refusal::DOUBLEWRITE_HEADER => "see that this is the double-write file of these pages, and that it was copied whole; if the power failed while it was being written, the pages had not been touched yet: `verify` tells whether they are good without it",
+        refusal::DOUBLEWRITE_CHECKSUM | refusal::DOUBLEWRITE_MARK => "nothing is taken from the file as it stands: copy it again from its disk; if the power failed while it was being written, the pages had not been touched yet: `verify` tells whether they are good without it",
+        refusal::DOUBLEWRITE_PAGES => "see that this file is of these pages, and that the page file was not cut short",
+        refusal::DOUBLEWRITE_SHORT => "lend a longer area",
         refusal::SUMMARY_AREA => "lend a longer area",
         refusal::SUMMARY_ENDS_EARLY => "see that this file is a list that `summary write` wrote and was copied whole, or write it anew",
         refusal::SUMMARY_SPELLING => "see that this file is a list that `summary write` wrote; if it is, it is damaged: write it anew",

@@ -247,6 +247,7 @@ impl Parsed {
             match *name {
                 "PAGES" => fields.push(("pages_file", given)),
                 "LOG" => fields.push(("log_file", given)),
+                "FILE.dw" => fields.push(("doublewrite_file", given)),
                 "FILE" => fields.push(("summary_file", given)),
                 _ => (),
             }
@@ -265,6 +266,11 @@ impl Parsed {
 
     pub fn name(&self) -> &'static str {
         self.command.name
+    }
+
+    /// Whether the command has an option.
+    pub fn has(&self, name: &str) -> bool {
+        self.command.options.iter().any(|it| it.name == name)
     }
 
     pub fn flag(&self, name: &str) -> bool {
@@ -333,7 +339,14 @@ impl Parsed {
         }
     }
 
-    fn parse(&self, name: &str, word: &OsStr, most: u64) -> Result<u64, Failure> {
+    /// The value of an option as text.
+    pub fn chosen_text(&self, name: &str) -> Option<String> {
+        let value = self.chosen.get(name);
+        value.map(|value| value.to_string_lossy().into_owned())
+    }
+
+    /// A number that was given for something.
+    pub fn parse(&self, name: &str, word: &OsStr, most: u64) -> Result<u64, Failure> {
         let text = word.to_string_lossy();
         let number = match text.strip_prefix("0x") {
             Some(digits) if !digits.starts_with('+') => u64::from_str_radix(digits, 16).ok(),

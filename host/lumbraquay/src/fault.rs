@@ -1,6 +1,6 @@
 //! What is wrong with a page that is refused: which field or slot it is, what stands there and what the rule asks.
 
-use library::refusal::{PAGE_CHECKSUM, PAGE_ID, PAGE_MAGIC_OR_TYPE, PAGE_SLOTS};
+use library::refusal::{refusal, PAGE_CHECKSUM, PAGE_ID, PAGE_MAGIC_OR_TYPE, PAGE_SLOTS};
 use library::{Verdict, PAGE_BYTES};
 
 use crate::input::Pages;
@@ -96,11 +96,7 @@ pub fn words(pages: &Pages, verdict: Verdict) -> Option<String> {
         ),
         PAGE_MAGIC_OR_TYPE => format!("{kind}, which should be 0 to 6; id {id}, LSN {lsn}"),
         PAGE_ID => {
-            let right = if checksum(page) == sum(page) {
-                "right"
-            } else {
-                "wrong"
-            };
+            let right = if is_torn(page) { "wrong" } else { "right" };
             format!("id {id}, which should be {index}; {kind}, LSN {lsn}, its checksum is {right}")
         }
         PAGE_CHECKSUM => format!(
@@ -110,6 +106,39 @@ pub fn words(pages: &Pages, verdict: Verdict) -> Option<String> {
         ),
         _ => slot_rule(page, Part::at(verdict.place)),
     })
+}
+
+/// Whether the checksum of a page is not that of its body.
+pub fn is_torn(page: &[u8]) -> bool {
+    checksum(page) != sum(page)
+}
+
+/// What each bad page is refused by: each is looked for behind the one before.
+pub fn bad_pages(pages: &Pages) -> impl Iterator<Item = (u64, Verdict)> + '_ {
+    let mut first = 0;
+    std::iter::from_fn(move || {
+        let verdict = library::verify_from(pages.magic, &pages.bytes, first);
+        let page = bad_page(verdict)?;
+        first = page + 1;
+        Some((page, verdict))
+    })
+}
+
+pub fn name(verdict: Verdict) -> &'static str {
+    refusal(verdict.number).map_or("unknown", |refusal| refusal.name)
+}
+
+/// A bad page as an object.
+pub fn bad_fields(pages: &Pages, verdict: Verdict) -> Json {
+    let mut all = vec![
+        ("number", verdict.number.into()),
+        ("name", name(verdict).into()),
+        ("place", verdict.place.into()),
+    ];
+    all.extend(fields(verdict));
+    let found = words(pages, verdict);
+    all.push(("found", found.map_or(Json::Null, Json::Text)));
+    Json::Object(all)
 }
 
 fn number(page: &[u8], at: usize) -> u64 {

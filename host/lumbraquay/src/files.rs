@@ -94,14 +94,39 @@ impl Seen {
 
     /// Reads the file. Of one that is over the limit no more are read than one byte past it, which the library refuses.
     pub fn read(self, limit: usize) -> Result<Whole, Failure> {
-        let most = limit as u64 + 1;
-        let mut bytes = memory::room(self.stamp.size.min(most) as usize + 1)?;
-        match memory::asking(|| (&self.file).take(most).read_to_end(&mut bytes)) {
-            Ok(read) => Ok(Whole {
-                bytes,
-                length: self.stamp.size.max(read as u64),
-                seen: self,
-            }),
+        self.read_on(&[], limit)
+    }
+
+    /// The same where the file's first bytes, as many as these are, tell the limit.
+    pub fn read_by(
+        self,
+        front: usize,
+        limit: impl FnOnce(&[u8]) -> usize,
+    ) -> Result<Whole, Failure> {
+        let mut bytes = memory::room(front)?;
+        self.add(&mut bytes, front)?;
+        let limit = limit(&bytes);
+        self.read_on(&bytes, limit)
+    }
+
+    /// Reads on behind the first bytes.
+    fn read_on(self, first: &[u8], limit: usize) -> Result<Whole, Failure> {
+        let most = limit + 1;
+        let size = usize::try_from(self.stamp.size).unwrap_or(usize::MAX);
+        let mut bytes = memory::room(size.min(most).max(first.len()) + 1)?;
+        bytes.extend_from_slice(first);
+        self.add(&mut bytes, most.saturating_sub(first.len()))?;
+        Ok(Whole {
+            length: self.stamp.size.max(bytes.len() as u64),
+            bytes,
+            seen: self,
+        })
+    }
+
+    /// Reads no more than so many bytes.
+    fn add(&self, bytes: &mut Vec<u8>, most: usize) -> Result<(), Failure> {
+        match memory::asking(|| (&self.file).take(most as u64).read_to_end(bytes)) {
+            Ok(_) => Ok(()),
             Err(error) => Err(Failure::file("read", &self.path, error)),
         }
     }

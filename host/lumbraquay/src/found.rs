@@ -36,6 +36,13 @@ pub fn found(verdict: Verdict, read: Read) -> Option<String> {
         refusal::NO_DATA_PAGE => no_data_page(read, place),
         refusal::PAGE_OVERFULL => needed(read.pages?, read.log?, place),
         refusal::NO_SUCH_PAGE => Some(there(read.pages?)),
+        refusal::DOUBLEWRITE_HEADER
+        | refusal::DOUBLEWRITE_CHECKSUM
+        | refusal::DOUBLEWRITE_MARK
+        | refusal::DOUBLEWRITE_PAGES => match read.list {
+            Some(list) => unfit(read.pages?, list),
+            None => read.doublewrite?.found(verdict, read.pages?.count() as u64),
+        },
         refusal::SUMMARY_ENDS_EARLY..=refusal::SUMMARY_LEFT_OVER => {
             Some(summary::found(read.summary?, number, place))
         }
@@ -70,6 +77,16 @@ fn length(pages: &Pages) -> String {
 
 fn there(pages: &Pages) -> String {
     format!("pages 0 to {}", pages.count().saturating_sub(1))
+}
+
+/// The first page of a list that is not there, or does not rise.
+fn unfit(pages: &Pages, list: &[u64]) -> Option<String> {
+    let stray = list.iter().find(|page| **page >= pages.count() as u64);
+    let fall = list.windows(2).find(|two| two[0] >= two[1]);
+    match (fall, stray) {
+        (Some(two), _) => Some(format!("page {} comes behind page {}", two[1], two[0])),
+        (None, stray) => Some(format!("page {}; there are {}", stray?, there(pages))),
+    }
 }
 
 fn header(log: &Log) -> String {

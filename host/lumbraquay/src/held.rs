@@ -103,15 +103,17 @@ impl Held {
     }
 
     /// Puts new bytes in the place of the old ones, of which a copy stays beside it. Gives the copy's path.
-    /// Stops, with all as it was, if the file or the log has changed since they were read.
-    pub fn replace(&self, log: &Seen, old: &[u8], new: &[u8]) -> Result<PathBuf, Failure> {
+    /// Stops, with all as it was, if it or another file that was read has changed since.
+    pub fn replace(&self, others: &[&Seen], old: &[u8], new: &[u8]) -> Result<PathBuf, Failure> {
         slow::at(Work::Writing);
         let path = &self.path;
         let _signals = Signals::held();
         let fresh = Fresh::write(path, new, true, |file| keep_all(file, &self.seen.file))?;
         let backup = self.back_up(old)?;
         sync_directory(path)?;
-        log.must_be_as_read()?;
+        others
+            .iter()
+            .try_for_each(|other| other.must_be_as_read())?;
         self.must_be_alone()?;
         if !self.holds(old) {
             let why = "another process changed it after it was read; no file was changed";
@@ -121,7 +123,7 @@ impl Held {
         // The old file keeps a name until it is sure that nobody writes to it.
         let second = Fresh::second_name(path);
         let mark = Mark::new(format!(
-            "{} is replaced by the recovered pages; {} has the {} bytes that were read from it",
+            "{} is replaced by the new pages; {} has the {} bytes that were read from it",
             path.display(),
             backup.path.display(),
             old.len()

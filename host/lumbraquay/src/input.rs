@@ -8,7 +8,9 @@ use library::{
 };
 
 use crate::args::Parsed;
+use crate::doublewrite::Doublewrite;
 use crate::failure::Failure;
+use crate::fault;
 use crate::files::{self, Seen, Whole};
 use crate::held::Held;
 use crate::json::Json;
@@ -21,8 +23,17 @@ pub struct Pages {
     /// The file's length, of which no more bytes are read than the library would take and one.
     pub length: u64,
     pub magic: u64,
-    magic_given: bool,
+    magic_from: MagicFrom,
     pub seen: Seen,
+    /// The bytes as they were read, where a repair has made others of them.
+    unrepaired: Option<Vec<u8>>,
+}
+
+#[derive(Clone, Copy, PartialEq, Eq)]
+enum MagicFrom {
+    Given,
+    Page0,
+    Copy,
 }
 
 impl Pages {
@@ -74,11 +85,43 @@ impl Pages {
         Ok(Pages {
             path: path.to_path_buf(),
             magic,
-            magic_given: given.is_some(),
+            magic_from: match given {
+                Some(_) => MagicFrom::Given,
+                None => MagicFrom::Page0,
+            },
             bytes,
             length,
             seen,
+            unrepaired: None,
         })
+    }
+
+    /// Where page 0 is torn its magic may be too: then that of its copy is taken, if the copy's checksum is right and no
+    /// page with a right one has the magic of page 0.
+    pub fn take_magic(&mut self, parsed: &Parsed, file: &Doublewrite) {
+        let mut pages = self.bytes.chunks_exact(PAGE_BYTES);
+        let in_doubt = self.magic_is_of_page_0()
+            && pages.next().is_some_and(fault::is_torn)
+            && !pages.any(|page| magic_of(page) == self.magic && !fault::is_torn(page));
+        if !in_doubt {
+            return;
+        }
+        let copy = file.copy_of(0, self.count() as u64);
+        if let Some(copy) = copy.filter(|copy| !fault::is_torn(copy)) {
+            self.magic = magic_of(copy);
+            self.magic_from = MagicFrom::Copy;
+            parsed.magic.set(Some(self.magic));
+        }
+    }
+
+    /// Goes on with the bytes that a repair made.
+    pub fn repair(&mut self, new: Vec<u8>) {
+        self.unrepaired = Some(std::mem::replace(&mut self.bytes, new));
+    }
+
+    /// The bytes that the file holds.
+    pub fn as_read(&self) -> &[u8] {
+        self.unrepaired.as_ref().unwrap_or(&self.bytes)
     }
 
     pub fn count(&self) -> usize {
@@ -92,7 +135,7 @@ impl Pages {
     }
 
     pub fn magic_is_of_page_0(&self) -> bool {
-        !self.magic_given
+        self.magic_from == MagicFrom::Page0
     }
 
     pub fn has_its_magic(&self, index: u64) -> bool {
@@ -109,9 +152,10 @@ impl Pages {
     }
 
     pub fn magic_from(&self) -> &'static str {
-        match self.magic_given {
-            true => "as given",
-            false => "read off page 0",
+        match self.magic_from {
+            MagicFrom::Given => "as given",
+            MagicFrom::Page0 => "read off page 0",
+            MagicFrom::Copy => "read off the copy of page 0 in the double-write file",
         }
     }
 
@@ -298,6 +342,9 @@ pub struct Read<'a> {
     pub log: Option<&'a Log>,
     pub summary: Option<&'a Summary>,
     pub floor: u64,
+    pub doublewrite: Option<&'a Doublewrite>,
+    /// The pages that a double-write file was to have.
+    pub list: Option<&'a [u64]>,
     /// Whether every bad page is already told.
     pub all_listed: bool,
     /// Whether the pages are those of --catalog.
@@ -350,6 +397,20 @@ impl<'a> Read<'a> {
             ..Read::default()
         }
     }
+
+    pub fn with(self, doublewrite: &'a Doublewrite) -> Read<'a> {
+        Read {
+            doublewrite: Some(doublewrite),
+            ..self
+        }
+    }
+
+    pub fn listing(self, list: &'a [u64]) -> Read<'a> {
+        Read {
+            list: Some(list),
+            ..self
+        }
+    }
 }
 
 /// The fields that every JSON object starts with.
@@ -372,6 +433,7 @@ impl Read<'_> {
         };
         let mut fields = self.pages.map_or(Vec::new(), |pages| pages.fields_of(file));
         fields.extend(self.log.map_or(Vec::new(), Log::fields));
+        fields.extend(self.doublewrite.map_or(Vec::new(), Doublewrite::fields));
         fields.extend(self.summary.map_or(Vec::new(), Summary::fields));
         fields
     }

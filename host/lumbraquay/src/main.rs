@@ -6,6 +6,7 @@ mod catalog;
 mod changes;
 mod commands;
 mod done;
+mod doublewrite;
 mod failure;
 mod fault;
 mod files;
@@ -27,6 +28,7 @@ mod slow;
 mod stats;
 mod summary;
 mod sys;
+mod target;
 mod tuple;
 mod walk;
 
@@ -268,9 +270,9 @@ fn overview() -> String {
     );
     for command in commands::ALL {
         match command.name.split_once(' ') {
-            None => text += &format!("  {:<9} {}\n", command.name, command.about),
+            None => text += &format!("  {:<11} {}\n", command.name, command.about),
             Some((group, action)) if actions(group).next().is_some_and(|it| it.0 == action) => {
-                text += &format!("  {group:<9} {}\n", group_about(group));
+                text += &format!("  {group:<11} {}\n", group_about(group));
             }
             Some(_) => (),
         }

@@ -8,7 +8,9 @@ use library::{
 
 use crate::args::Parsed;
 use crate::changes::{changes, Change};
+use crate::doublewrite::Repaired;
 use crate::failure::Failure;
+use crate::files::Seen;
 use crate::input::{Log, Pages, Read};
 use crate::json::Json;
 use crate::memory;
@@ -24,11 +26,18 @@ pub struct Mended {
     pub records: Vec<Record>,
     /// The pages afterwards.
     pub new: Vec<u8>,
+    /// What was done to the pages before.
+    repaired: Option<Repaired>,
 }
 
 impl Mended {
     /// Recovers a copy of the pages, with the options that say how. The answer may be a refusal.
-    pub fn of(parsed: &Parsed, pages: Pages, log: Log) -> Result<Mended, Failure> {
+    pub fn of(
+        parsed: &Parsed,
+        pages: Pages,
+        log: Log,
+        repaired: Option<Repaired>,
+    ) -> Result<Mended, Failure> {
         let floor = parsed.chosen_number("--floor")?.unwrap_or(0);
         let most_records = parsed.chosen_number("--records")?;
         let mut new = memory::room(pages.bytes.len())?;
@@ -48,12 +57,23 @@ impl Mended {
             answer,
             records,
             new,
+            repaired,
         })
     }
 
     /// What was read, for the words of a refusal.
     pub fn read(&self) -> Read<'_> {
-        Read::both(&self.pages, &self.log, self.floor)
+        let read = Read::both(&self.pages, &self.log, self.floor);
+        match &self.repaired {
+            Some(repaired) => read.with(&repaired.file),
+            None => read,
+        }
+    }
+
+    /// The files that were read beside the pages.
+    pub fn others(&self) -> Vec<&Seen> {
+        let repaired = self.repaired.iter().map(|it| &it.file.seen);
+        [&self.log.seen].into_iter().chain(repaired).collect()
     }
 
     /// The page that a refusal speaks of.
@@ -88,6 +108,9 @@ impl Mended {
         let answer = &self.answer;
         output.line(self.pages.line())?;
         output.line(format_args!("{}, floor {}", self.log.line(), self.floor))?;
+        if let Some(repaired) = &self.repaired {
+            repaired.tell(output)?;
+        }
         let (bytes, place) = (self.left_out_bytes(), answer.tail_offset);
         let tail = match answer.ending {
             ENDED_TORN => format!("torn tail of {bytes} bytes at offset {place}"),
@@ -133,6 +156,7 @@ impl Mended {
         let answer = &self.answer;
         let mut fields = self.pages.fields();
         fields.extend(self.log.fields());
+        fields.extend(self.repaired.as_ref().map_or(Vec::new(), Repaired::fields));
         fields.extend([
             ("floor", self.floor.into()),
             ("last_lsn", answer.last_lsn.into()),

@@ -104,6 +104,16 @@ pub fn printable(bytes: &[u8]) -> Option<&str> {
     (!text.chars().any(char::is_control)).then_some(text)
 }
 
+/// Numbers in rising order, runs of them as ranges: 0-1, 7-9.
+pub fn ranges(numbers: &[u64]) -> String {
+    let runs = numbers.chunk_by(|one, next| one.checked_add(1) == Some(*next));
+    let run = |run: &[u64]| match run {
+        [first, .., last] => format!("{first}-{last}"),
+        run => run.iter().map(u64::to_string).collect(),
+    };
+    runs.map(run).collect::<Vec<String>>().join(", ")
+}
+
 /// A count with its noun.
 pub fn count(number: u64, one: &str, many: &str) -> String {
     match number {

@@ -9,9 +9,10 @@ use crate::failure::note;
 const PATIENCE: Duration = Duration::from_secs(2);
 
 /// What a run does at a time.
-const WORKS: [&str; 6] = [
+const WORKS: [&str; 7] = [
     "the work",
     "reading",
+    "repairing",
     "recovering",
     "writing",
     "showing",
@@ -21,6 +22,7 @@ const WORKS: [&str; 6] = [
 #[derive(Clone, Copy)]
 pub enum Work {
     Reading = 1,
+    Repairing,
     Recovering,
     Writing,
     Showing,

@@ -4,6 +4,7 @@
 mod bytes;
 mod catalog;
 mod crc;
+mod doublewrite;
 mod examine;
 mod intake;
 mod listing;
@@ -16,6 +17,9 @@ mod summary;
 
 pub use catalog::{table_find, table_read, table_read_older, table_write, Table};
 pub use crc::crc32c;
+pub use doublewrite::{
+    doublewrite_id, doublewrite_read, doublewrite_write, repair, Contents, Repair,
+};
 pub use intake::{find_order, repeated_orders, FoundOrder, RepeatedOrders};
 pub use listing::{
     free_map, list_cancelled, list_visible, next_visible, verify, verify_from, FreeMap, Listing,

@@ -36,7 +36,7 @@ static void look(const char *function, size_t numbers, size_t out_len) {
     }
 
 static uint8_t pages[1 << 20], kept[sizeof pages], log_bytes[1 << 16], map[64], list[1 << 16];
-static uint8_t area[LQ_TABLE_LIMIT_BYTES], mark[LQ_MARK_BYTES];
+static uint8_t area[LQ_TABLE_LIMIT_BYTES], mark[LQ_MARK_BYTES], copies[LQ_DOUBLEWRITE_BYTES(2)];
 static uint64_t table[64], rows[64];
 
 static size_t read_all(const char *name, uint8_t *into, size_t room) {
@@ -69,6 +69,13 @@ int main(int count, char **words) {
     CALL(lq_list_cancelled, LQ_LIST_VISIBLE_NUMBERS, 1, NULL, 0, 0, 0, NULL, 0)
     CALL(lq_free_map, LQ_FREE_MAP_NUMBERS, 1, NULL, 0, NULL, 0)
     must(whole[LQ_FREE_MAP_NUMBER] == LQ_DONE, "lq_free_map", "no pages need no map", MOST);
+    CALL(lq_doublewrite_read, LQ_DOUBLEWRITE_READ_NUMBERS, NULL, 0, 0)
+    must(whole[LQ_DOUBLEWRITE_READ_NUMBER] == LQ_DOUBLEWRITE_HEADER, "lq_doublewrite_read", "no file is no header", MOST);
+    must(lq_doublewrite_id(NULL, 0, 0) == 0, "lq_doublewrite_id", "no file names page 0", 0);
+    CALL(lq_repair, LQ_REPAIR_NUMBERS, 1, NULL, 0, NULL, 0)
+    must(whole[LQ_REPAIR_NUMBER] == LQ_DOUBLEWRITE_HEADER, "lq_repair", "no file is no header", MOST);
+    CALL(lq_doublewrite_write, LQ_DOUBLEWRITE_WRITE_NUMBERS, NULL, 0, NULL, 0, NULL, 0)
+    must(whole[LQ_DOUBLEWRITE_WRITE_NUMBER] == LQ_DOUBLEWRITE_SHORT, "lq_doublewrite_write", "no area is too short", MOST);
     CALL(lq_summary_write, LQ_SUMMARY_WRITE_NUMBERS, 1, NULL, 0, 300, NULL, 0)
     must(whole[LQ_SUMMARY_WRITE_NUMBER] == LQ_SUMMARY_AREA, "lq_summary_write", "no area is too short", MOST);
     CALL(lq_summary_read, LQ_SUMMARY_READ_NUMBERS, NULL, 0)
@@ -147,6 +154,22 @@ int main(int count, char **words) {
     CALL(lq_recover, LQ_RECOVER_NUMBERS, magic, 0, (uint8_t *)memcpy(pages, kept, sizeof kept), pages_len, log_bytes,
          log_len, NULL, 0)
     must(whole[LQ_RECOVER_NUMBER] == LQ_NO_RECORD, "lq_recover", "no table has no record left", MOST);
+
+    static const uint64_t named[] = {0, 1};
+    CALL(lq_doublewrite_write, LQ_DOUBLEWRITE_WRITE_NUMBERS, kept, pages_len, named, 2, copies, sizeof copies)
+    must(whole[LQ_DOUBLEWRITE_WRITE_LENGTH] == sizeof copies, "lq_doublewrite_write", "a file of two pages", MOST);
+    CALL(lq_doublewrite_read, LQ_DOUBLEWRITE_READ_NUMBERS, copies, sizeof copies, pages_len / LQ_PAGE_BYTES)
+    must(whole[LQ_DOUBLEWRITE_READ_SLOTS] == 2, "lq_doublewrite_read", "the file has two slots", MOST);
+    must(lq_doublewrite_id(copies, sizeof copies, 1) == 1, "lq_doublewrite_id", "slot 1 names page 1", 0);
+    memcpy(pages, kept, sizeof kept);
+    for (size_t out_len = MOST + 1; out_len-- > 0;) {
+        pages[LQ_PAGE_BYTES + 100] ^= 1;
+        memset(out, 255, sizeof out);
+        lq_repair(magic, pages, pages_len, copies, sizeof copies, out_len ? out : NULL, out_len);
+        look("lq_repair", LQ_REPAIR_NUMBERS, out_len);
+        must(memcmp(pages, kept, pages_len) == 0, "lq_repair", "page 1 is not restored", out_len);
+    }
+    must(whole[LQ_REPAIR_RESTORED] == 1, "lq_repair", "one page is restored", MOST);
 
     CALL(lq_table_write, LQ_TABLE_WRITE_NUMBERS, 14, 9, (const uint8_t *)"app", 3, (const uint8_t *)"orders", 6,
          LQ_CLUSTERED, 258, area, sizeof area)

@@ -5,8 +5,8 @@ use std::collections::BTreeMap;
 
 use library::refusal::{DONE, REFUSALS};
 use library::{
-    Answer, FoundOrder, FreeMap, Listed, Listing, Record, RepeatedOrders, Row, Step, Summary,
-    SummaryRow, SummaryStep, Table, Verdict, Visible, Written,
+    Answer, Contents, FoundOrder, FreeMap, Listed, Listing, Record, Repair, RepeatedOrders, Row,
+    Step, Summary, SummaryRow, SummaryStep, Table, Verdict, Visible, Written,
 };
 
 const HEADER: &str = include_str!("../../../../include/lumbraquay.h");
@@ -65,6 +65,10 @@ fn names_and_numbers_are_the_same() {
         ("FROM_NOWHERE", library::FROM_NOWHERE),
         ("FROM_LOG", library::FROM_LOG),
         ("FROM_PAGES", library::FROM_PAGES),
+        (
+            "DOUBLEWRITE_SLOT_BYTES",
+            library::DOUBLEWRITE_SLOT_BYTES as u64,
+        ),
         ("HEAP", library::HEAP),
         ("CLUSTERED", library::CLUSTERED),
         ("TABLE_LIMIT_BYTES", library::TABLE_LIMIT_BYTES as u64),
@@ -90,6 +94,9 @@ fn names_and_numbers_are_the_same() {
         ("LIST_VISIBLE", &Listing::NAMES),
         ("ROW", &Listed::NAMES),
         ("FREE_MAP", &FreeMap::NAMES),
+        ("DOUBLEWRITE_READ", &Contents::NAMES),
+        ("REPAIR", &Repair::NAMES),
+        ("DOUBLEWRITE_WRITE", &Written::NAMES),
         ("SUMMARY_WRITE", &Written::NAMES),
         ("SUMMARY_READ", &Summary::NAMES),
         ("SUMMARY_ROW", &SummaryRow::NAMES),

@@ -6,14 +6,14 @@ use std::sync::OnceLock;
 use std::time::Instant;
 
 use compare::{sweep, Seen};
-use generate::mutations;
+use generate::{file_kinds, mutations};
 use library::refusal::REFUSALS;
 
 use crate::{assert_no_differences, tell};
 
 const SEEDS: Range<u64> = 0..20_000;
 
-/// The calls that are lent pages.
+/// The calls that refuse pages which are not good.
 const OVER_PAGES: [&str; 12] = [
     "recover",
     "read_row",
@@ -30,8 +30,11 @@ const OVER_PAGES: [&str; 12] = [
 ];
 
 /// The other calls that refuse by the papers' numbers.
-const OTHERS: [&str; 6] = [
+const OTHERS: [&str; 9] = [
     "log_open",
+    "doublewrite_read",
+    "repair",
+    "doublewrite_write",
     "table_read",
     "table_read_older",
     "table_write",
@@ -77,6 +80,14 @@ fn counts(seen: &Seen) -> String {
         text += &format!("\n{times:>10} x {event}");
     }
     text
+}
+
+/// Fails unless a call gave each of these numbers more than fifty times.
+fn assert_gives(seen: &Seen, entry: &'static str, numbers: &[u64]) {
+    for &number in numbers {
+        let times = seen.times(entry, number);
+        assert!(times > 50, "{entry} gave {number} {times} times");
+    }
 }
 
 /// Fails if something came up fewer times than it should.
@@ -194,10 +205,7 @@ fn page_faults_are_told_apart() {
     let seen = seen();
     assert_no_differences(seen);
     for entry in OVER_PAGES {
-        for number in [11, 17, 18, 19] {
-            let times = seen.times(entry, number);
-            assert!(times > 50, "{entry} gave {number} {times} times");
-        }
+        assert_gives(seen, entry, &[11, 17, 18, 19]);
     }
     assert_often(
         seen,
@@ -302,6 +310,42 @@ fn spoiled_inputs_reach_every_refusal() {
         assert!(seen.kinds.contains_key(mutation.name), "{}", mutation.name);
     }
     assert_often(seen, &[("aim", 5_000)]);
+}
+
+/// Every way to spoil a double-write file is refused as it must be; copies are taken exactly where they are to be; a repair
+/// stopped anywhere and repeated, and the recovery after it, end in the same bytes.
+#[test]
+fn torn_pages_are_repaired() {
+    let seen = seen();
+    assert_no_differences(seen);
+    for kind in file_kinds() {
+        assert_often(seen, &[(kind, 200)]);
+    }
+    assert_gives(seen, "doublewrite_read", &[0, 1, 22, 23, 24, 25]);
+    assert_gives(seen, "repair", &[0, 1, 22, 23, 24, 25]);
+    assert_gives(seen, "doublewrite_write", &[0, 1, 25, 26]);
+    assert_often(
+        seen,
+        &[
+            ("repaired", 5_000),
+            ("copy taken", 5_000),
+            ("copy that is not good", 1_500),
+            ("copy refused by 11", 500),
+            ("copy refused by 17", 200),
+            ("copy refused by 18", 500),
+            ("copy refused by 19", 200),
+            ("torn page without a copy", 1_500),
+            ("page at fault with a right checksum", 1_000),
+            ("repair stopped between pages", 4_000),
+            ("recovered after a repair", 1_000),
+            ("ledger after a repair", 500),
+            ("stopped in repair and recovery", 300),
+            ("file written", 3_000),
+            ("area one byte short of a file", 1_000),
+            ("area as long as a file", 1_000),
+            ("list with the page past the last", 1_000),
+        ],
+    );
 }
 
 /// Summaries of every kind are written and read, and each of their refusals is given often.

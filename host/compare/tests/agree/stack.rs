@@ -48,6 +48,14 @@ fn call_everything() {
         0
     );
     assert_eq!(library::free_map(MAGIC, &pages, &mut [0; 38]).free, 0);
+    let list: Vec<u64> = (0..300).collect();
+    let mut file = vec![0; library::doublewrite_bytes(300)];
+    let written = library::doublewrite_write(&pages, &list, &mut file);
+    assert_eq!(written.length, file.len() as u64);
+    assert_eq!(library::doublewrite_read(&file, 300).slots, 300);
+    assert_eq!(library::doublewrite_id(&file, 299), 299);
+    pages[299 * library::PAGE_BYTES + 100] ^= 1;
+    assert_eq!(library::repair(MAGIC, &mut pages, &file).restored, 1);
     assert_eq!(library::table_find(MAGIC, &pages, 14).found, 0);
     // Equal marks are halved most often.
     let orders: Vec<u8> = (0..300)

@@ -2,6 +2,7 @@
 
 mod catalog;
 mod common;
+mod doublewrite;
 mod honest;
 mod honesty;
 mod intake;

@@ -1,11 +1,13 @@
 //! The commands, one file each.
 
 mod demo;
+mod doublewrite;
 mod freemap;
 mod log;
 mod order;
 mod pages;
 mod recover;
+mod repair;
 mod repeats;
 mod replay;
 mod report;
@@ -28,6 +30,7 @@ use crate::output::Output;
 pub const ALL: &[Command] = &[
     demo::COMMAND,
     recover::COMMAND,
+    repair::COMMAND,
     verify::COMMAND,
     log::COMMAND,
     pages::COMMAND,
@@ -38,6 +41,7 @@ pub const ALL: &[Command] = &[
     order::COMMAND,
     repeats::COMMAND,
     freemap::COMMAND,
+    doublewrite::COMMAND,
     summary::WRITE,
     summary::SHOW,
     summary::DIFF,

@@ -42,7 +42,7 @@ fn run(parsed: &Parsed, output: &mut Output) -> Result<(), Failure> {
         files::check_new(out, parsed.flag("--force"))?;
     }
     let (pages, log) = (Pages::read(parsed)?, Log::read(parsed, 1)?);
-    let mended = Mended::of(parsed, pages, log)?;
+    let mended = Mended::of(parsed, pages, log, None)?;
     let html = page(&mended);
     if is_standard(out) {
         let mut standard = Output::standard();

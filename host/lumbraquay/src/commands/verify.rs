@@ -1,6 +1,5 @@
 //! `verify`: whether every page is good, and which are not.
 
-use library::refusal::refusal;
 use library::{Verdict, PAGE_BYTES};
 
 use crate::advice::{refusal_fields, text, unless_refused};
@@ -58,17 +57,6 @@ fn run(parsed: &Parsed, output: &mut Output) -> Result<(), Failure> {
     output.line(format_args!("every page is good: {}", types.join(", ")))
 }
 
-/// What each bad page is refused by: each is looked for behind the one before.
-fn bad_pages(pages: &Pages) -> impl Iterator<Item = (u64, Verdict)> + '_ {
-    let mut first = 0;
-    std::iter::from_fn(move || {
-        let verdict = library::verify_from(pages.magic, &pages.bytes, first);
-        let page = fault::bad_page(verdict)?;
-        first = page + 1;
-        Some((page, verdict))
-    })
-}
-
 /// Lists every bad page; then the first of them is refused.
 fn list(
     parsed: &Parsed,
@@ -81,7 +69,7 @@ fn list(
         ..Read::pages(pages)
     };
     if parsed.flag("--json") {
-        let bad = bad_pages(pages).map(|(_, verdict)| bad_fields(pages, verdict));
+        let bad = fault::bad_pages(pages).map(|(_, verdict)| fault::bad_fields(pages, verdict));
         let mut fields = head_fields(parsed, "refused", verdict);
         fields.extend(refusal_fields(verdict, read));
         fields.extend(pages.fields());
@@ -92,12 +80,12 @@ fn list(
     output.line(pages.line())?;
     output.line("  page  refused by             found")?;
     let mut bad = 0;
-    for (page, verdict) in bad_pages(pages) {
+    for (page, verdict) in fault::bad_pages(pages) {
         bad += 1;
         output.line(format_args!(
             "{page:>6}  {} {:<18}  {}",
             verdict.number,
-            name(verdict),
+            fault::name(verdict),
             fault::words(pages, verdict).unwrap_or_default()
         ))?;
     }
@@ -106,22 +94,6 @@ fn list(
         show::count(pages.count() as u64, "page is", "pages are")
     ))?;
     Err(Failure::Refused(text(verdict, read)))
-}
-
-fn name(verdict: Verdict) -> &'static str {
-    refusal(verdict.number).map_or("unknown", |refusal| refusal.name)
-}
-
-fn bad_fields(pages: &Pages, verdict: Verdict) -> Json {
-    let mut fields = vec![
-        ("number", verdict.number.into()),
-        ("name", name(verdict).into()),
-        ("place", verdict.place.into()),
-    ];
-    fields.extend(fault::fields(verdict));
-    let found = fault::words(pages, verdict);
-    fields.push(("found", found.map_or(Json::Null, Json::Text)));
-    Json::Object(fields)
 }
 
 /// How many pages there are of each type that comes up.

@@ -135,7 +135,7 @@ const LEAVING: [(&str, &[&str]); 5] = [
     (
         "recover outage.pages outage.log --in-place",
         &[
-            "outage.pages is replaced by the recovered pages; ",
+            "outage.pages is replaced by the new pages; ",
             "outage.pages.bak has the 65536 bytes that were read from it",
         ],
     ),

@@ -273,7 +273,7 @@ impl Scene {
             None => {
                 tally.killed += 1;
                 tally.replaced += u64::from(bytes == self.new);
-                let says = "is replaced by the recovered pages; ";
+                let says = "is replaced by the new pages; ";
                 let is_told = signal == 9 || bytes == self.old || done.err.contains(says);
                 assert!(is_told, "{done:#?}");
             }

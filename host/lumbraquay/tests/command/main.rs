@@ -4,6 +4,7 @@
 mod demo;
 mod disk;
 mod documents;
+mod doublewrite;
 mod ends;
 mod inputs;
 mod install;

@@ -2,9 +2,10 @@
 
 use crate::sandbox::Sandbox;
 
-pub const COMMANDS: [&str; 17] = [
+pub const COMMANDS: [&str; 19] = [
     "demo",
     "recover",
+    "repair",
     "verify",
     "log",
     "pages",
@@ -15,6 +16,7 @@ pub const COMMANDS: [&str; 17] = [
     "order",
     "repeats",
     "freemap",
+    "doublewrite",
     "summary write",
     "summary show",
     "summary diff",
@@ -53,6 +55,7 @@ fn every_command_has_help_and_json() {
         "--out",
         "--in-place",
         "--dry-run",
+        "--dw",
         "--force",
         "--magic",
         "--floor",
@@ -124,6 +127,10 @@ fn wrong_words_are_told() {
             "SLOT is '65536', not a number up to 65535",
         ),
         ("replay", "SEED is missing"),
+        (
+            "repair outage.pages",
+            "FILE.dw is missing: the double-write file",
+        ),
         (
             "replay 1 --count 2 --all",
             "--count goes with none of --all, --dir and --force",

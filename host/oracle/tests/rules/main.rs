@@ -3,6 +3,7 @@
 mod catalog_rows;
 mod common;
 mod crc;
+mod doublewrite;
 mod entry_rules;
 mod log_reader;
 mod order_and_size;

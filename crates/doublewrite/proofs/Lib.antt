@@ -1,0 +1,9 @@
+pub mod FileLaws
+pub mod Ids
+pub mod Marking
+pub mod Repairing
+pub mod Slots
+pub mod Listed
+pub mod Writing
+pub mod ReadBack
+pub mod Laws

@@ -1,0 +1,4 @@
+pub mod File
+pub mod Repair
+pub mod Write
+pub mod Marks

@@ -1,0 +1,3 @@
+pub mod After
+pub mod Demand3Repaired
+pub mod Example

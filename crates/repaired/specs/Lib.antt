@@ -1,0 +1,2 @@
+pub mod Demand3Repaired
+pub mod Example
