@@ -28,7 +28,7 @@ extern "C" {
 
 /* The version of this interface. It rises where callers have to be compiled anew: a prototype has changed, or the
  * numbers of a record or of a row. An answer that grows at its end leaves it as it is. */
-#define LQ_VERSION 1
+#define LQ_VERSION 2
 
 /* The version that the library has: LQ_VERSION, where header and library belong together. */
 uint32_t lq_version(void);
@@ -209,9 +209,11 @@ enum lq_record {
     LQ_RECORD_NUMBER = 0,    /* the transaction */
     LQ_RECORD_FIRST_LSN = 1, /* of its Begin */
     LQ_RECORD_OUTCOME = 2,
-    LQ_RECORD_CHANGES = 3
+    LQ_RECORD_CHANGES = 3,
+    LQ_RECORD_ENDING_LSN = 4,     /* of its Commit or Rollback, 0 where it is unended */
+    LQ_RECORD_LAST_CHANGE_LSN = 5 /* 0 where it has no changes */
 };
-#define LQ_RECORD_NUMBERS 4
+#define LQ_RECORD_NUMBERS 6
 
 /* Outcomes of a transaction. */
 enum lq_outcome { LQ_UNENDED = 0, LQ_COMMITTED = 1, LQ_ROLLED_BACK = 2 };

@@ -34,7 +34,7 @@ use Rattle.summary.specs.declared.SummaryStep.{SummaryStep}
 
 -- lq_version
 abbrev pub version : ℕ
-version = 1
+version = 2
 
 -- what a function leaves in the array that it is lent for its numbers: the first of them, as many as fit, and the rest of the array as it was
 unfoldable pub given : List ℕ → List ℕ → List ℕ

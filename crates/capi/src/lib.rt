@@ -45,7 +45,7 @@ const UNUSED: u64 = 3;
 const DAMAGED: u64 = 4;
 
 // The version of the interface.
-const VERSION: u32 = 1;
+const VERSION: u32 = 2;
 
 // Puts numbers into a lent array, as many as fit.
 fn give(numbers: &[u64], out: &mut [u64])
@@ -465,7 +465,7 @@ fn answer_numbers(a: Answer) -> [u64; 13]
     ]
 }
 
-// Recovery: the pages mended, the table filled with four numbers for each record, and the answer.
+// Recovery: the pages mended, the table filled with six numbers for each record, and the answer.
 #[no_mangle]
 pub extern "C" fn lq_recover(
     magic: u64,

@@ -18,7 +18,7 @@ pub record Input : Type 0 where
   pub log : List ℕ
 
 abbrev pub noRecord : Record
-noRecord = record { number = record { 0 = 0 }; first = record { 0 = 0 }; outcome = 0; changes = 0 }
+noRecord = record { number = record { 0 = 0 }; first = record { 0 = 0 }; outcome = 0; changes = 0; ending = record { 0 = 0 }; last = record { 0 = 0 } }
 
 abbrev pub run : Input → Recovered
 run x = recoverOf (lent magic (x .floor) (x .pages) (x .log)) (replicate 8 noRecord)

@@ -16,11 +16,12 @@ use Rattle.refusals.proofs.Then.{then-zero}
 use Rattle.rules.specs.Lent.{lent}
 use Rattle.rules.specs.Shape.{both, either, isChange, isChanging, isShaped, isBare}
 use Rattle.rules.specs.Order.{count, any, is, isBegin, begun, ended, isOpen, inOrder, fullAt, orderFrom, endVerdict, logVerdict}
-use Rattle.rules.specs.Recover.{outcomeOf, recordOf, recordsOf, tableAfter, recoverOf}
+use Rattle.rules.specs.Recover.{outcomeOf, isChangeBy, isEndOf, recordOf, recordsOf, tableAfter, recoverOf}
 use Rattle.rules.specs.declared.Record.{Record}
 use Rattle.rules.proofs.Tests.{false-true, both-true, both-none, not-true}
 use Rattle.rules.proofs.OrderLaws.{Every, Passes, numbered, InTurn, in-turn}
 use Rattle.rules.proofs.Counts.{count-append, records-append}
+use Rattle.rules.proofs.Times.{those-front, none-those, none-ends}
 use Rattle.rules.proofs.Again.{zero-accepted, recover-zero}
 
 -- ---- tests on entries in two parts
@@ -96,11 +97,15 @@ any-none k t (f ∷ fs) h = rw (h .0, both-none) (any-none k t fs (h .1))
 same-record : (es fs : List Entry) (e : Entry) → Every (λ f. eqb (f .txn) (e .txn) ≡ false) fs → recordOf (es ++ fs) e ≡ recordOf es e
 unfolding recordOf outcomeOf
 same-record es fs e h =
-    let c : count (λ f. both (isChange f) (eqb (f .txn) (e .txn))) (es ++ fs) ≡ count (λ f. both (isChange f) (eqb (f .txn) (e .txn))) es =
-    count-append (λ f. both (isChange f) (eqb (f .txn) (e .txn))) es fs ∙ omega (arith, count-none isChange (e .txn) fs h) in
-    let a = any-same (is commit (e .txn)) es fs (any-none commit (e .txn) fs h) in
-    let r = any-same (is rollback (e .txn)) es fs (any-none rollback (e .txn) fs h) in
-    rw (c, a, r)
+    let none = count-none isChange (e .txn) fs h in
+    let no-commit = any-none commit (e .txn) fs h in
+    let no-rollback = any-none rollback (e .txn) fs h in
+    let c : count (isChangeBy (e .txn)) (es ++ fs) ≡ count (isChangeBy (e .txn)) es = count-append (isChangeBy (e .txn)) es fs ∙ omega (arith, none) in
+    let a = any-same (is commit (e .txn)) es fs no-commit in
+    let r = any-same (is rollback (e .txn)) es fs no-rollback in
+    let n = those-front (isEndOf (e .txn)) es fs (none-ends (e .txn) fs no-commit no-rollback) in
+    let l = those-front (isChangeBy (e .txn)) es fs (none-those (isChangeBy (e .txn)) fs none) in
+    rw (c, a, r, n, l)
 
 ended-by : (es : List Entry) (e : Entry) → (recordOf es e .outcome ≡ 0 → ⊥) → ended es (e .txn) ≡ true
 unfolding recordOf outcomeOf ended

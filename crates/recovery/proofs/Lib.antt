@@ -7,3 +7,4 @@ pub mod Heads
 pub mod RowLaws
 pub mod RowRecovered
 pub mod Whole
+pub mod Times

@@ -20,7 +20,7 @@ use Rattle.rules.proofs.Verdicts.{log-undamaged, is-accepted}
 use Rattle.order.specs.declared.Walked.{Walked}
 use Rattle.fates.specs.Fate.{Ordered}
 use Rattle.tally.specs.Counts.{tallyOf}
-use Rattle.table.specs.Flat.{flatAfter}
+use Rattle.table.specs.Flat.{stride, flatAfter}
 use Rattle.checks.proofs.LogLaws.{header-fits}
 use Rattle.table.proofs.Flattening.{length-records}
 use Rattle.recovery.specs.Flat.{rows, FlatRecovered, flattened, recoverFlat}
@@ -129,23 +129,23 @@ pub begins-of : (records magic floor : ℕ) (pages log : List ℕ) → recoverVe
 begins-of records magic floor pages log h = begins-fit records log (is-accepted (fullAt records) magic floor pages log h .logOk)
 
 module _ (magic floor : ℕ) (pages log table : List ℕ) where
-  flat-is : recoverFlat (lent magic floor pages log) table ≡ flattened (recoverBy (recoverVerdict (fullAt (length table / 4)) (lent magic floor pages log)) pages log (rows table)) table
+  flat-is : recoverFlat (lent magic floor pages log) table ≡ flattened (recoverBy (recoverVerdict (fullAt (length table / stride)) (lent magic floor pages log)) pages log (rows table)) table
   unfolding recoverFlat recoverOf
   flat-is = rw (length-rows table)
 
   abbrev Judged : Verdict
-  Judged = recoverVerdict (fullAt (length table / 4)) (lent magic floor pages log)
+  Judged = recoverVerdict (fullAt (length table / stride)) (lent magic floor pages log)
 
-  pub flat-answer : recoverBy (recoverVerdict (fullAt (length table / 4)) (lent magic floor pages log)) pages log [] .answer ≡ recoverFlat (lent magic floor pages log) table .answer
+  pub flat-answer : recoverBy (recoverVerdict (fullAt (length table / stride)) (lent magic floor pages log)) pages log [] .answer ≡ recoverFlat (lent magic floor pages log) table .answer
   flat-answer = by-answer Judged pages log [] (rows table) ∙ ap (λ (r : FlatRecovered). r .answer) (sym flat-is)
 
-  pub flat-pages : recoverBy (recoverVerdict (fullAt (length table / 4)) (lent magic floor pages log)) pages log [] .pages ≡ recoverFlat (lent magic floor pages log) table .pages
+  pub flat-pages : recoverBy (recoverVerdict (fullAt (length table / stride)) (lent magic floor pages log)) pages log [] .pages ≡ recoverFlat (lent magic floor pages log) table .pages
   flat-pages = by-pages Judged pages log [] (rows table) ∙ ap (λ (r : FlatRecovered). r .pages) (sym flat-is)
 
-  pub flat-done : recoverVerdict (fullAt (length table / 4)) (lent magic floor pages log) .number ≡ 0 → flatAfter (entries log) table ≡ recoverFlat (lent magic floor pages log) table .table
+  pub flat-done : recoverVerdict (fullAt (length table / stride)) (lent magic floor pages log) .number ≡ 0 → flatAfter (entries log) table ≡ recoverFlat (lent magic floor pages log) table .table
   flat-done z =
-      sym (flat-after (entries log) table (rw (length-records (entries log) (entries log), length-rows table) (begins-of (length table / 4) magic floor pages log z)))
+      sym (flat-after (entries log) table (rw (length-records (entries log) (entries log), length-rows table) (begins-of (length table / stride) magic floor pages log z)))
       ∙ ap (λ (r : Recovered). flattened r table .table) (sym (by-done Judged pages log (rows table) z)) ∙ ap (λ (r : FlatRecovered). r .table) (sym flat-is)
 
-  pub flat-refused : (recoverVerdict (fullAt (length table / 4)) (lent magic floor pages log) .number ≡ 0 → ⊥) → table ≡ recoverFlat (lent magic floor pages log) table .table
+  pub flat-refused : (recoverVerdict (fullAt (length table / stride)) (lent magic floor pages log) .number ≡ 0 → ⊥) → table ≡ recoverFlat (lent magic floor pages log) table .table
   flat-refused h = sym (flat-rows table) ∙ ap (λ (r : Recovered). flattened r table .table) (sym (by-refused Judged pages log (rows table) h)) ∙ ap (λ (r : FlatRecovered). r .table) (sym flat-is)

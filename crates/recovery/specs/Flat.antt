@@ -1,26 +1,35 @@
--- Recovery with a table of plain numbers, four for each record.
-use Prim.Native.Nat.{ℕ}
+-- Recovery with a table of plain numbers, `stride` for each record.
+use Prim.Native.Nat.{ℕ, zero, suc, _*_, _/_}
 use mathlib.Core.List.{List, [], _∷_, _++_}
+use lib.ListN.{length, getD, take, drop}
 use Rattle.rules.specs.Recover.{Recovered, recoverOf}
 use Rattle.rules.specs.declared.Answer.{Answer}
 use Rattle.rules.specs.declared.Record.{Record}
-use Rattle.table.specs.Flat.{flat}
+use Rattle.table.specs.Flat.{stride, flat}
 use Rattle.rules.specs.Lent.{Lent}
 
--- the records of a flat table, and the numbers behind the last whole one
+-- a record from its numbers
+abbrev pub recordFrom : List ℕ → Record
+recordFrom l =
+    record {
+      number = record { 0 = getD l 0 0 };
+      first = record { 0 = getD l 1 0 };
+      outcome = getD l 2 0;
+      changes = getD l 3 0;
+      ending = record { 0 = getD l 4 0 };
+      last = record { 0 = getD l 5 0 };
+    }
+
+-- the first n records of a flat table, all of them, and the numbers behind the last whole one
+unfoldable pub recordsIn : ℕ → List ℕ → List Record
+recordsIn zero d = []
+recordsIn (suc n) d = recordFrom (take stride d) ∷ recordsIn n (drop stride d)
+
 unfoldable pub rows : List ℕ → List Record
-rows [] = []
-rows (a ∷ []) = []
-rows (a ∷ b ∷ []) = []
-rows (a ∷ b ∷ c ∷ []) = []
-rows (a ∷ b ∷ c ∷ d ∷ l) = record { number = record { 0 = a }; first = record { 0 = b }; outcome = c; changes = d } ∷ rows l
+rows d = recordsIn (length d / stride) d
 
 unfoldable pub left : List ℕ → List ℕ
-left [] = []
-left (a ∷ []) = a ∷ []
-left (a ∷ b ∷ []) = a ∷ b ∷ []
-left (a ∷ b ∷ c ∷ []) = a ∷ b ∷ c ∷ []
-left (a ∷ b ∷ c ∷ d ∷ l) = left l
+left d = drop (stride * (length d / stride)) d
 
 pub record FlatRecovered : Type 0 where
   pub answer : Answer

@@ -58,13 +58,15 @@ fn show_answer(a: Answer) {
     number(b", pages ", a.rewritten);
 }
 
-fn show_record(t: &[u64; 12], a: usize)
-    requires { ⌜ a ≤ 8 ⌝ }
+fn show_record(t: &[u64; 18], a: usize)
+    requires { ⌜ a ≤ 12 ⌝ }
 {
     number(b" ", t[a]);
     number(b" ", t[a + 1]);
     number(b" ", t[a + 2]);
     number(b" ", t[a + 3]);
+    number(b" ", t[a + 4]);
+    number(b" ", t[a + 5]);
 }
 
 fn show_slot(p: &[u8], k: u8) {
@@ -104,7 +106,7 @@ fn show_page(name: &[u8], before: &[u8], p: &[u8]) {
 // Recovery of two pages with three records, which hold 99s; and once more, of what it left.
 fn case(name: &[u8], before: [u8; 32768], floor: u64, log: &[u8]) {
     let mut p = before;
-    let mut t = [99u64; 12];
+    let mut t = [99u64; 18];
     let a = recovery::recover_flat(MAGIC, Lsn(floor), &mut p, used(log), &mut t);
     word(name);
     show_answer(a);
@@ -112,8 +114,8 @@ fn case(name: &[u8], before: [u8; 32768], floor: u64, log: &[u8]) {
     show_page(b"; page 1", &before[16384..], &p[16384..]);
     word(b"; table");
     show_record(&t, 0);
-    show_record(&t, 4);
-    show_record(&t, 8);
+    show_record(&t, 6);
+    show_record(&t, 12);
     let mut q = p;
     let b = recovery::recover_flat(MAGIC, Lsn(floor), &mut q, used(log), &mut t);
     number(b"; again ", b.number);
@@ -127,7 +129,7 @@ fn first(name: &[u8], log: &[u8], n: usize) {
         return;
     }
     let mut p = [0u8; 0];
-    let mut t = [99u64; 12];
+    let mut t = [99u64; 18];
     let a = recovery::recover_flat(MAGIC, Lsn(0), &mut p, &log[0..n], &mut t);
     word(name);
     show_answer(a);

@@ -10,3 +10,4 @@ pub mod Range
 pub mod Area
 pub mod Again
 pub mod Counts
+pub mod Times

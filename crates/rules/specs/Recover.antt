@@ -75,14 +75,28 @@ changesOf o es = count (λ e. both (isChange e) (both (not (eqb (e .txn) 0)) (eq
 unfoldable pub changesZero : List Entry → ℕ
 changesZero es = count (λ e. both (isChange e) (eqb (e .txn) 0)) es
 
--- the record of a Begin: number, first LSN, outcome, changes
+-- a change by transaction t, and the entry that ends it
+abbrev pub isChangeBy : ℕ → Entry → Bool
+isChangeBy t e = both (isChange e) (eqb (e .txn) t)
+
+abbrev pub isEndOf : ℕ → Entry → Bool
+isEndOf t e = either (is commit t e) (is rollback t e)
+
+-- the entries that pass a test
+unfoldable pub those : (Entry → Bool) → List Entry → List Entry
+those f [] = []
+those f (e ∷ es) = consIf (f e) e (those f es)
+
+-- the record of a Begin: number, first LSN, outcome, changes, LSN of the Commit or Rollback, LSN of the last change; a LSN is 0 where there is no such entry
 unfoldable pub recordOf : List Entry → Entry → Record
 recordOf es e =
     record {
       number = record { 0 = e .txn };
       first = record { 0 = e .lsn };
       outcome = outcomeOf es (e .txn);
-      changes = count (λ f. both (isChange f) (eqb (f .txn) (e .txn))) es;
+      changes = count (isChangeBy (e .txn)) es;
+      ending = record { 0 = lastLsn (those (isEndOf (e .txn)) es) };
+      last = record { 0 = lastLsn (those (isChangeBy (e .txn)) es) };
     }
 
 -- one record per Begin, in log order

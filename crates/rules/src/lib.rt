@@ -19,12 +19,14 @@ pub struct Answer {
     pub ending: u64,
 }
 
-// A record of the transaction table: outcome 0 unended, 1 committed, 2 rolled back.
+// A record of the transaction table: outcome 0 unended, 1 committed, 2 rolled back; the LSNs of its Begin, of its Commit or Rollback and of its last change, 0 where there is none.
 pub struct Record {
     pub number: TxnNumber,
     pub first: Lsn,
     pub outcome: u8,
     pub changes: u64,
+    pub ending: Lsn,
+    pub last: Lsn,
 }
 
 // A row as recovery would leave it: refused or unfilled, its header is zero. Its 7 pad bytes are one number.

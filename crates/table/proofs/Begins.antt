@@ -13,7 +13,8 @@ use Rattle.endian.specs.Pick.{pick, consIf}
 use Rattle.wal.specs.Entry.{Entry, begin, commit, rollback, checkpoint}
 use Rattle.rules.specs.Shape.{both, either, isChange, isChanging}
 use Rattle.rules.specs.Order.{one, count, any, is, isBegin, begun, isOpen, inOrder, lastLsn}
-use Rattle.rules.specs.Recover.{outcomeOf}
+use Rattle.rules.specs.Recover.{outcomeOf, isChangeBy, isEndOf, those}
+use Rattle.rules.proofs.Times.{none-those, none-ends}
 use Rattle.rules.proofs.Tests.{false-true, both-true, both-none, either-none, either-false, not-true}
 use Rattle.rules.proofs.OrderLaws.{Passes, InTurn, numbered, last-snoc}
 use Rattle.table.specs.Rows.{blank, passing, key, Rising}
@@ -34,7 +35,7 @@ begun-front es fs t h = either-false (any (is begin t) es) (any (is begin t) fs)
 
 module _ (full : ℕ → Bool) where
   -- a Begin finds its number unused
-  unbegun : (es : List Entry) (f : Entry) → Passes full es f → f .kind ≡ begin → begun es (f .txn) ≡ false
+  pub unbegun : (es : List Entry) (f : Entry) → Passes full es f → f .kind ≡ begin → begun es (f .txn) ≡ false
   unfolding inOrder isChanging
   unbegun es f h k =
       let n : f .txn ≡ 0 → ⊥ = numbered full es f h begin refl refl k in
@@ -93,7 +94,7 @@ module _ (full : ℕ → Bool) where
   -- ---- nothing before a Begin
 
   -- where t has not begun, no entry is of t
-  quiet : (xs fs : List Entry) (t : ℕ) → (t ≡ 0 → ⊥) → InTurn full xs fs → begun (xs ++ fs) t ≡ false
+  pub quiet : (xs fs : List Entry) (t : ℕ) → (t ≡ 0 → ⊥) → InTurn full xs fs → begun (xs ++ fs) t ≡ false
       → (any (is commit t) fs ≡ false) × (any (is rollback t) fs ≡ false) × (count (λ e. both (isChange e) (eqb (e .txn) t)) fs ≡ 0)
   unfolding inOrder isOpen isChanging
   quiet xs [] t n h b = (refl, refl, refl)
@@ -137,7 +138,7 @@ module _ (full : ℕ → Bool) where
 
   -- a row that no entry of es has told of
   abbrev pub plain : List Entry → Row → Bool
-  plain es r = both (eqb (r .outcome) 0) (both (eqb (r .changes) 0) (both (not (eqb (r .number .0) 0)) (not (begun es (r .number .0)))))
+  plain es r = both (eqb (r .outcome) 0) (both (eqb (r .changes) 0) (both (eqb (r .ending .0) 0) (both (eqb (r .last .0) 0) (both (not (eqb (r .number .0) 0)) (not (begun es (r .number .0)))))))
 
   pub plain-begun : (es fs : List Entry) → InTurn full es fs → (i : ℕ) → i < length (begunRows fs) → plain es (getD (begunRows fs) i blank) ≡ true
   unfolding begunRows isChanging
@@ -148,9 +149,11 @@ module _ (full : ℕ → Bool) where
       less r e =
           let x = both-true (eqb (r .outcome) 0) _ e in
           let y = both-true (eqb (r .changes) 0) _ (x .1) in
-          let z = both-true (not (eqb (r .number .0) 0)) _ (y .1) in
+          let u = both-true (eqb (r .ending .0) 0) _ (y .1) in
+          let v = both-true (eqb (r .last .0) 0) _ (u .1) in
+          let z = both-true (not (eqb (r .number .0) 0)) _ (v .1) in
           let w = begun-front es (f ∷ []) (r .number .0) (not-true _ (z .1)) in
-          rw (x .0, y .0, z .0, w)
+          rw (x .0, y .0, u .0, v .0, z .0, w)
 
       go : (c : Bool) → isBegin f ≡ c → (i : ℕ) → i < length (consIf c (fresh f) (begunRows fs)) → ((i : ℕ) → i < length (begunRows fs) → plain (es ++ (f ∷ [])) (getD (begunRows fs) i blank) ≡ true)
           → plain es (getD (consIf c (fresh f) (begunRows fs)) i blank) ≡ true
@@ -171,10 +174,17 @@ module _ (full : ℕ → Bool) where
   plain-told es h r e =
       let x = both-true (eqb (r .outcome) 0) _ e in
       let y = both-true (eqb (r .changes) 0) _ (x .1) in
-      let z = both-true (not (eqb (r .number .0) 0)) _ (y .1) in
+      let u = both-true (eqb (r .ending .0) 0) _ (y .1) in
+      let v = both-true (eqb (r .last .0) 0) _ (u .1) in
+      let z = both-true (not (eqb (r .number .0) 0)) _ (v .1) in
       let n : r .number .0 ≡ 0 → ⊥ = eqb-false (r .number .0) 0 (not-true (eqb (r .number .0) 0) (z .0)) in
       let q = quiet [] es (r .number .0) n h (not-true (begun es (r .number .0)) (z .1)) in
       let o : r .outcome ≡ 0 = eqb-true (r .outcome) 0 (x .0) in
       let k : r .changes ≡ 0 = eqb-true (r .changes) 0 (y .0) in
       let a : outcomeOf es (r .number .0) ≡ r .outcome = rw (q .0, q .1) (sym o) in
-      (ap₂ (λ (x y : ℕ). record { number = r .number; first = r .first; outcome = x; changes = y }) a (q .2 ∙ sym k), n)
+      let e : lastLsn (those (isEndOf (r .number .0)) es) ≡ r .ending .0 = ap lastLsn (none-ends (r .number .0) es (q .0) (q .1)) ∙ sym (eqb-true (r .ending .0) 0 (u .0)) in
+      let l : lastLsn (those (isChangeBy (r .number .0)) es) ≡ r .last .0 = ap lastLsn (none-those (isChangeBy (r .number .0)) es (q .2)) ∙ sym (eqb-true (r .last .0) 0 (v .0)) in (
+        ap₂ (λ (x y : ℕ). record { number = r .number; first = r .first; outcome = x; changes = y; ending = record { 0 = lastLsn (those (isEndOf (r .number .0)) es) }; last = record { 0 = lastLsn (those (isChangeBy (r .number .0)) es) } }) a (q .2 ∙ sym k)
+            ∙ ap₂ (λ (x y : ℕ). record { number = r .number; first = r .first; outcome = r .outcome; changes = r .changes; ending = record { 0 = x }; last = record { 0 = y } }) e l,
+        n,
+      )

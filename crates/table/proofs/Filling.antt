@@ -40,9 +40,9 @@ pub filled-none : {s : List ℕ} {from : ℕ} (a : List ℕ) → Met s from → 
 filled-none a m = record { met = m; low = omega arith; started = λ e. refl; room = omega arith; many = omega arith; rest = refl; front = refl }
 
 -- the entry that was read, as it was read
-row-read : (s : List ℕ) (p : ℕ) {v : EntryView} → v ≡ entryIn s p → _≡_ {A = Row} (record { number = v .txn; first = v .lsn; outcome = 0; changes = 0 }) (fresh (said s p))
+row-read : (s : List ℕ) (p : ℕ) {v : EntryView} → v ≡ entryIn s p → _≡_ {A = Row} (record { number = v .txn; first = v .lsn; outcome = 0; changes = 0; ending = record { 0 = 0 }; last = record { 0 = 0 } }) (fresh (said s p))
 unfolding entryOf
-row-read s p e = ap (λ (u : EntryView). record { number = u .txn; first = u .lsn; outcome = 0; changes = 0 }) e
+row-read s p e = ap (λ (u : EntryView). record { number = u .txn; first = u .lsn; outcome = 0; changes = 0; ending = record { 0 = 0 }; last = record { 0 = 0 } }) e
 
 -- n of the rows l, and the next one
 next-row : (l : List Row) (n : ℕ) (r : Row) (rs : List Row) → r ∷ rs ≡ drop n l → (n < length l) × (getD l n blank ≡ r) × (drop (suc n) l ≡ rs)
@@ -110,7 +110,7 @@ module _ {s : List ℕ} {from : ℕ} {a : List ℕ} {r : List Row} {n at : ℕ} 
           later false q m = absurd (omega (arith, f .started (omega (arith, f .low, ltb-false from at q))))
 
       -- a row more
-      pub filled-begin : n < length a / stride → {t : List Row} → t ≡ set r n (record { number = v .txn; first = v .lsn; outcome = 0; changes = 0 }) → Filled s from a t (n + 1) (at + v .length)
+      pub filled-begin : n < length a / stride → {t : List Row} → t ≡ set r n (record { number = v .txn; first = v .lsn; outcome = 0; changes = 0; ending = record { 0 = 0 }; last = record { 0 = 0 } }) → Filled s from a t (n + 1) (at + v .length)
       filled-begin h {t} e =
           let w = next-row (begunRows (onward s from)) n (fresh (said s at)) (begunRows (onward s (at + v .length))) first-row in
           record {

@@ -12,7 +12,7 @@ use Rattle.wal.specs.Entry.{Entry}
 use Rattle.rules.specs.Order.{one, count, isBegin}
 use Rattle.rules.specs.Recover.{recordOf, recordsOf}
 use Rattle.rules.specs.declared.Record.{Record}
-use Rattle.table.specs.Flat.{stride, four, flat, flatAfter}
+use Rattle.table.specs.Flat.{stride, six, flat, flatAfter}
 use Rattle.table.specs.Rows.{cells, rowOf, rowFor, rowsIn, rows, Full, key}
 use Rattle.table.specs.Telling.{fresh, begunRows, tell}
 use Rattle.table.specs.declared.Row.{Row}
@@ -96,7 +96,7 @@ flat-append (r ∷ rs) qs = rw (flat-append rs qs)
 pub length-flat : (rs : List Record) → length (flat rs) ≡ stride * length rs
 unfolding flat
 length-flat [] = refl
-length-flat (r ∷ rs) = omega (arith, length-append (four r) (flat rs), length-flat rs)
+length-flat (r ∷ rs) = omega (arith, length-append (six r) (flat rs), length-flat rs)
 
 -- the table b, of which the rows in front are those of all entries and the others stayed
 filled : (es : List Entry) (a b : List ℕ) (n : ℕ) → Full a → length b ≡ length a → n ≡ length (begunRows es) → n ≤ length a / stride

@@ -148,9 +148,9 @@ module _ {s xs : List ℕ} (i j : ℕ) (h : Held s xs) (e : baseOf xs + j ≡ i)
   row-outcome r q = subst (λ (k : ℕ). k ≤ 2) (sym (ap (λ (x : Row). x .outcome) (q ∙ ap (λ (l : List ℕ). getD (rows l) j blank) (behind-is xs)))) held-outcome
 
   pub row-record : (r : Row) → r ≡ getD (rows (take (length xs - head) (drop head xs))) j blank
-      → record { number = r .number; first = r .first; outcome = r .outcome; changes = r .changes } ≡ getD (recordsOf (entries s) (entries s)) i noRecord
+      → record { number = r .number; first = r .first; outcome = r .outcome; changes = r .changes; ending = r .ending; last = r .last } ≡ getD (recordsOf (entries s) (entries s)) i noRecord
   row-record r q =
-      ap (λ (x : Row). record { number = x .number; first = x .first; outcome = x .outcome; changes = x .changes }) (q ∙ ap (λ (l : List ℕ). getD (rows l) j blank) (behind-is xs) ∙ held-row)
+      ap (λ (x : Row). record { number = x .number; first = x .first; outcome = x .outcome; changes = x .changes; ending = x .ending; last = x .last }) (q ∙ ap (λ (l : List ℕ). getD (rows l) j blank) (behind-is xs) ∙ held-row)
 
   pub row-held : HeldTo s xs (i + 1)
   row-held = record { held = h; low = omega arith; high = omega arith }

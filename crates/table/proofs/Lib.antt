@@ -16,3 +16,4 @@ pub mod Stages
 pub mod Clauses
 pub mod Scratch
 pub mod Rising
+pub mod Times

@@ -11,6 +11,7 @@ use lib.Seq.{length-take-le, take-all, take-at, drop-at, drop-drop, set-at, drop
 use lib.Dec.{ltb}
 use borrow.Author.Tests.{eqb-true, eq-eqb, ne-eqb, ltb-true, ltb-false}
 use Rattle.endian.specs.Pick.{consIf}
+use Rattle.endian.specs.declared.Lsn.{Lsn}
 use Rattle.wal.specs.Entry.{Entry, begin, entryOf}
 use Rattle.wal.specs.Read.{lengthAt}
 use Rattle.wal.specs.Walk.{entries, endOf}
@@ -26,7 +27,7 @@ use Rattle.table.specs.Telling.{Orderly, newRow, fresh, begunRows, Span,
 use Rattle.table.specs.declared.Row.{Row}
 use Rattle.table.proofs.Storing.{rows-length, rows-append, rows-take, rows-drop}
 use Rattle.table.proofs.Telling.{told-rising, kept-number, told-changes, tell-begin, entered}
-use Rattle.table.proofs.Walking.{front-turn, turn-all, passes-at, entries-few, arrived}
+use Rattle.table.proofs.Walking.{lsn-read, front-turn, turn-all, passes-at, entries-few, arrived}
 use Rattle.table.proofs.Begins.{plain-begun, plain-told, fresh-plain}
 use Rattle.table.proofs.Flattening.{begun-le}
 use Rattle.table.proofs.Blocks.{span-all}
@@ -98,10 +99,10 @@ module _ (d y : List ℕ) (n : ℕ) (h : n ≤ length d / stride) (l : length y 
   front-back : rows (y ++ drop (stride * n) d) ≡ rows y ++ drop n (rows d)
   front-back = rows-append y (drop (stride * n) d) (omega (arith, l, lent-long)) ∙ ap (λ (x : List Row). rows y ++ x) (rows-drop d n h)
 
-  pub front-entered : {kind t : ℕ} → Entered (rows (take (stride * n) d)) kind t (rows y) → Entered (take n (rows d)) kind t (take n (rows (y ++ drop (stride * n) d)))
-  front-entered {kind} {t} e =
+  pub front-entered : {kind t : ℕ} {lsn : Lsn} → Entered (rows (take (stride * n) d)) kind t lsn (rows y) → Entered (take n (rows d)) kind t lsn (take n (rows (y ++ drop (stride * n) d)))
+  front-entered {kind} {t} {lsn} e =
       let q : take n (rows (y ++ drop (stride * n) d)) ≡ rows y = ap (take n) front-back ∙ take-at (rows y) (drop n (rows d)) n y-rows in
-      subst (λ (x : List Row). Entered x kind t (take n (rows (y ++ drop (stride * n) d)))) (rows-take d n h) (subst (λ (x : List Row). Entered (rows (take (stride * n) d)) kind t x) (sym q) e)
+      subst (λ (x : List Row). Entered x kind t lsn (take n (rows (y ++ drop (stride * n) d)))) (rows-take d n h) (subst (λ (x : List Row). Entered (rows (take (stride * n) d)) kind t lsn x) (sym q) e)
 
   pub front-left : drop n (rows (y ++ drop (stride * n) d)) ≡ drop n (rows d)
   front-left = ap (drop n) front-back ∙ drop-at (rows y) (drop n (rows d)) n y-rows
@@ -185,11 +186,11 @@ module _ {s a : List ℕ} {r : List Row} {n last at : ℕ} (f : Risen s a r n la
     unfolding begunRows
     begun-next b q = ap begunRows next ∙ begun-append (before s at) (said s at ∷ []) ∙ ap (λ (w : Bool). begunRows (before s at) ++ consIf w (fresh (said s at)) []) q
 
-    pub risen-other : (v .kind ≡ begin → ⊥) → {d : List Row} → Entered (take n r) (v .kind) (v .txn .0) (take n d) → drop n d ≡ drop n r → Risen s a d n last (at + v .length)
+    pub risen-other : (v .kind ≡ begin → ⊥) → {d : List Row} → Entered (take n r) (v .kind) (v .txn .0) (v .lsn) (take n d) → drop n d ≡ drop n r → Risen s a d n last (at + v .length)
     risen-other b {d} e q =
         let w : isBegin (said s at) ≡ false = ne-eqb _ _ (λ z. b (view-kind s at (k .is) ∙ z)) in
         let z : begunRows (before s (at + v .length)) ≡ begunRows (before s at) = begun-next false w ∙ append-nil (begunRows (before s at)) in
-        let t : Entered (map (tell (before s at)) (begunRows (before s at))) (said s at .kind) (said s at .txn) (take n d) = rw (told-front, view-kind s at (k .is), view-txn s at (k .is)) at e in
+        let t : Entered (map (tell (before s at)) (begunRows (before s at))) (said s at .kind) (said s at .txn) (record { 0 = said s at .lsn }) (take n d) = rw (told-front, view-kind s at (k .is), view-txn s at (k .is), lsn-read s at (k .is)) at e in
         let g = entered (before s at) (said s at) pass (begunRows (before s at)) (f .up) real t in
         record {
           met = k .met;

@@ -11,11 +11,12 @@ use borrow.Author.Tests.{eqb-true, eq-eqb, ne-eqb, ltb-true, ltb-false}
 use Rattle.endian.specs.Pick.{pick}
 use Rattle.wal.specs.Entry.{Entry, begin, commit, rollback}
 use Rattle.rules.specs.Shape.{both, either, isChange, isChanging}
-use Rattle.rules.specs.Order.{one, count, any, is, isBegin, begun, ended, isOpen, inOrder}
-use Rattle.rules.specs.Recover.{outcomeOf}
+use Rattle.rules.specs.Order.{one, count, any, is, isBegin, begun, ended, isOpen, inOrder, lastLsn}
+use Rattle.rules.specs.Recover.{outcomeOf, isChangeBy, isEndOf, those}
 use Rattle.rules.proofs.Tests.{both-true, both-none, either-none, either-false, not-true}
 use Rattle.rules.proofs.OrderLaws.{Passes}
 use Rattle.rules.proofs.Counts.{count-snoc}
+use Rattle.rules.proofs.Times.{last-those}
 use Rattle.table.specs.Rows.{blank, key, Rising}
 use Rattle.table.specs.Telling.{tell, toldBy, Entered, begins, zero as by-zero, other, own}
 use Rattle.table.specs.declared.Row.{Row}
@@ -55,7 +56,7 @@ any-append f (e ∷ es) fs = rw (any-append f es fs) (go (f e))
     go true = refl
     go false = refl
 
-both-all : (b : Bool) → both b true ≡ b
+pub both-all : (b : Bool) → both b true ≡ b
 both-all true = refl
 both-all false = refl
 
@@ -70,64 +71,87 @@ module _ (es : List Entry) (f : Entry) (u : ℕ) where
   outcome-same c r = outcome-after ∙ rw (c, r, either-none (any (is commit u) es), either-none (any (is rollback u) es))
 
 module _ (es : List Entry) (f : Entry) (r : Row) where
+  abbrev n : ℕ
+  n = r .number .0
+
+  -- an entry that is no ending of the transaction, and no change by it
+  ending-same : is commit n f ≡ false → is rollback n f ≡ false → lastLsn (those (isEndOf n) (es ++ (f ∷ []))) ≡ lastLsn (those (isEndOf n) es)
+  ending-same c q = last-those (isEndOf n) es f ∙ rw (c, q)
+
+  last-same : isChangeBy n f ≡ false → lastLsn (those (isChangeBy n) (es ++ (f ∷ []))) ≡ lastLsn (those (isChangeBy n) es)
+  last-same q = last-those (isChangeBy n) es f ∙ rw q
+
+  changes-same : isChangeBy n f ≡ false → count (isChangeBy n) (es ++ (f ∷ [])) ≡ count (isChangeBy n) es
+  changes-same q = count-snoc (isChangeBy n) es f ∙ rw q (omega arith)
+
   -- an entry of another transaction
   pub tell-other : (f .txn ≡ r .number .0 → ⊥) → tell (es ++ (f ∷ [])) r ≡ tell es r
   unfolding tell
-  tell-other n =
-      let q : eqb (f .txn) (r .number .0) ≡ false = ne-eqb (f .txn) (r .number .0) n in
-      let o = outcome-same es f (r .number .0) (rw q (both-none (eqb (f .kind) commit))) (rw q (both-none (eqb (f .kind) rollback))) in
-      let c : count (λ e. both (isChange e) (eqb (e .txn) (r .number .0))) (es ++ (f ∷ [])) ≡ count (λ e. both (isChange e) (eqb (e .txn) (r .number .0))) es =
-      count-snoc (λ e. both (isChange e) (eqb (e .txn) (r .number .0))) es f ∙ rw (q, both-none (isChange f)) (omega arith)
-      in
-      rw (o, c)
+  tell-other h =
+      let q : eqb (f .txn) n ≡ false = ne-eqb (f .txn) n h in
+      let c : is commit n f ≡ false = rw q (both-none (eqb (f .kind) commit)) in
+      let b : is rollback n f ≡ false = rw q (both-none (eqb (f .kind) rollback)) in
+      let g : isChangeBy n f ≡ false = rw q (both-none (isChange f)) in
+      rw (outcome-same es f n c b, changes-same g, ending-same c b, last-same g)
 
   -- a Begin
   pub tell-begin : f .kind ≡ begin → tell (es ++ (f ∷ [])) r ≡ tell es r
   unfolding tell isChanging
   tell-begin k =
-      let o = outcome-same es f (r .number .0) (rw k) (rw k) in
-      let c : count (λ e. both (isChange e) (eqb (e .txn) (r .number .0))) (es ++ (f ∷ [])) ≡ count (λ e. both (isChange e) (eqb (e .txn) (r .number .0))) es =
-      count-snoc (λ e. both (isChange e) (eqb (e .txn) (r .number .0))) es f ∙ rw k (omega arith)
-      in
-      rw (o, c)
+      let c : is commit n f ≡ false = rw k in
+      let b : is rollback n f ≡ false = rw k in
+      let g : isChangeBy n f ≡ false = rw k in
+      rw (outcome-same es f n c b, changes-same g, ending-same c b, last-same g)
 
   -- an entry of its own; a Rollback comes after no Commit
   module _ (e : f .txn ≡ r .number .0) where
-    mine : (k : ℕ) (b : Bool) → eqb (f .kind) k ≡ b → is k (r .number .0) f ≡ b
-    mine k b q = rw (q, eq-eqb (f .txn) (r .number .0) e, both-all b)
+    mine : (k : ℕ) (b : Bool) → eqb (f .kind) k ≡ b → is k n f ≡ b
+    mine k b q = rw (q, eq-eqb (f .txn) n e, both-all b)
 
-    changes-after : (b : Bool) → isChanging (f .kind) ≡ b → count (λ g. both (isChange g) (eqb (g .txn) (r .number .0))) (es ++ (f ∷ [])) ≡ count (λ g. both (isChange g) (eqb (g .txn) (r .number .0))) es + one b
-    changes-after b q = count-snoc (λ g. both (isChange g) (eqb (g .txn) (r .number .0))) es f ∙ rw (q, eq-eqb (f .txn) (r .number .0) e, both-all b)
+    changing : (b : Bool) → isChanging (f .kind) ≡ b → isChangeBy n f ≡ b
+    changing b q = rw (q, eq-eqb (f .txn) n e, both-all b)
 
-    pub tell-own : (f .kind ≡ rollback → any (is commit (r .number .0)) es ≡ false) → tell (es ++ (f ∷ [])) r ≡ toldBy (f .kind) (tell es r)
+    -- the row by its last four numbers
+    abbrev by : ℕ → ℕ → ℕ → ℕ → Row
+    by o c a l = record { number = r .number; first = r .first; outcome = o; changes = c; ending = record { 0 = a }; last = record { 0 = l } }
+
+    pub tell-own : (f .kind ≡ rollback → any (is commit (r .number .0)) es ≡ false) → tell (es ++ (f ∷ [])) r ≡ toldBy (f .kind) (record { 0 = f .lsn }) (tell es r)
     unfolding tell toldBy isChanging
     tell-own h = go (eqb (f .kind) commit) (eqb (f .kind) rollback) (isChanging (f .kind)) refl refl refl
       where
-        zero-more : {n : ℕ} → n + 0 ≡ n
-        zero-more = omega arith
+        changed : count (isChangeBy n) (es ++ (f ∷ [])) ≡ count (isChangeBy n) es + one (isChangeBy n f)
+        changed = count-snoc (isChangeBy n) es f
 
-        ended-by : (c q : Bool) → eqb (f .kind) commit ≡ c → eqb (f .kind) rollback ≡ q → outcomeOf (es ++ (f ∷ [])) (r .number .0) ≡ pick (either (any (is commit (r .number .0)) es) (either c false)) 1 (pick (either (any (is rollback (r .number .0)) es) (either q false)) 2 0)
-        ended-by c q a b = outcome-after es f (r .number .0) ∙ rw (mine commit c a, mine rollback q b)
+        ended-by : (c q : Bool) → eqb (f .kind) commit ≡ c → eqb (f .kind) rollback ≡ q → outcomeOf (es ++ (f ∷ [])) n ≡ pick (either (any (is commit n) es) (either c false)) 1 (pick (either (any (is rollback n) es) (either q false)) 2 0)
+        ended-by c q a b = outcome-after es f n ∙ rw (mine commit c a, mine rollback q b)
+
+        ending-by : (c q : Bool) → eqb (f .kind) commit ≡ c → eqb (f .kind) rollback ≡ q → lastLsn (those (isEndOf n) (es ++ (f ∷ []))) ≡ pick (either c q) (f .lsn) (lastLsn (those (isEndOf n) es))
+        ending-by c q a b = last-those (isEndOf n) es f ∙ rw (mine commit c a, mine rollback q b)
 
         right : (b : Bool) → either b true ≡ true
         right true = refl
         right false = refl
 
         go : (c q k : Bool) → eqb (f .kind) commit ≡ c → eqb (f .kind) rollback ≡ q → isChanging (f .kind) ≡ k
-            → _≡_ {A = Row}
-            (record { number = r .number; first = r .first; outcome = outcomeOf (es ++ (f ∷ [])) (r .number .0); changes = count (λ g. both (isChange g) (eqb (g .txn) (r .number .0))) (es ++ (f ∷ [])) })
-            (pick c (record { number = r .number; first = r .first; outcome = 1; changes = count (λ g. both (isChange g) (eqb (g .txn) (r .number .0))) es })
-            (pick q (record { number = r .number; first = r .first; outcome = 2; changes = count (λ g. both (isChange g) (eqb (g .txn) (r .number .0))) es })
-            (pick k (record { number = r .number; first = r .first; outcome = outcomeOf es (r .number .0); changes = count (λ g. both (isChange g) (eqb (g .txn) (r .number .0))) es + 1 })
-            (record { number = r .number; first = r .first; outcome = outcomeOf es (r .number .0); changes = count (λ g. both (isChange g) (eqb (g .txn) (r .number .0))) es }))))
+            → by (outcomeOf (es ++ (f ∷ [])) n) (count (isChangeBy n) (es ++ (f ∷ []))) (lastLsn (those (isEndOf n) (es ++ (f ∷ [])))) (lastLsn (those (isChangeBy n) (es ++ (f ∷ []))))
+            ≡ pick c (by 1 (count (isChangeBy n) es) (f .lsn) (lastLsn (those (isChangeBy n) es)))
+            (pick q (by 2 (count (isChangeBy n) es) (f .lsn) (lastLsn (those (isChangeBy n) es)))
+            (pick k (by (outcomeOf es n) (count (isChangeBy n) es + 1) (lastLsn (those (isEndOf n) es)) (f .lsn))
+            (by (outcomeOf es n) (count (isChangeBy n) es) (lastLsn (those (isEndOf n) es)) (lastLsn (those (isChangeBy n) es)))))
         go true q k a b d =
-            let n = changes-after false (ap isChanging (eqb-true (f .kind) commit a)) in
-            rw (ended-by true q a b, right (any (is commit (r .number .0)) es), n, zero-more)
+            let g = changing false (ap isChanging (eqb-true (f .kind) commit a)) in
+            rw (ended-by true q a b, right (any (is commit n) es), changes-same g, ending-by true q a b, last-same g)
         go false true k a b d =
-            let n = changes-after false (ap isChanging (eqb-true (f .kind) rollback b)) in
-            rw (ended-by false true a b, h (eqb-true (f .kind) rollback b), right (any (is rollback (r .number .0)) es), n, zero-more)
-        go false false true a b d = rw (outcome-same es f (r .number .0) (mine commit false a) (mine rollback false b), changes-after true d)
-        go false false false a b d = rw (outcome-same es f (r .number .0) (mine commit false a) (mine rollback false b), changes-after false d, zero-more)
+            let g = changing false (ap isChanging (eqb-true (f .kind) rollback b)) in
+            rw (ended-by false true a b, h (eqb-true (f .kind) rollback b), right (any (is rollback n) es), changes-same g, ending-by false true a b, last-same g)
+        go false false true a b d =
+            let g = changing true d in
+            let l : lastLsn (those (isChangeBy n) (es ++ (f ∷ []))) ≡ f .lsn = last-those (isChangeBy n) es f ∙ rw g in
+            let m : count (isChangeBy n) (es ++ (f ∷ [])) ≡ count (isChangeBy n) es + 1 = changed ∙ rw g in
+            rw (outcome-same es f n (mine commit false a) (mine rollback false b), m, ending-by false false a b, l)
+        go false false false a b d =
+            let g = changing false d in
+            rw (outcome-same es f n (mine commit false a) (mine rollback false b), changes-same g, ending-by false false a b, last-same g)
 
 -- ---- a list of rows, each told by the entries es
 
@@ -158,7 +182,7 @@ pub told-changes : (es : List Entry) (l : List Row) (i : ℕ) → i < length (ma
 unfolding tell
 told-changes es l i h =
     let b : i < length l = omega (arith, length-map l (tell es)) in
-    rw (getD-map (tell es) l i b) (count-le (λ f. both (isChange f) (eqb (f .txn) (getD l i blank .number .0))) es)
+    rw (getD-map (tell es) l i b) (count-le (isChangeBy (getD l i blank .number .0)) es)
 
 module _ {full : ℕ → Bool} (es : List Entry) (f : Entry) (h : Passes full es f) (l : List Row) (rising : Rising 0 l) (real : (i : ℕ) → i < length l → getD l i blank .number .0 ≡ 0 → ⊥) where
   -- where no row is of the entry's transaction
@@ -178,13 +202,13 @@ module _ {full : ℕ → Bool} (es : List Entry) (f : Entry) (h : Passes full es
       go true k = omega (arith, rising .at i j (ltb-true i j k) q, key-number (getD l i blank), key-number (getD l j blank))
       go false k = omega (arith, rising .at j i (omega (arith, ltb-false i j k)) p, key-number (getD l i blank), key-number (getD l j blank))
 
-  pub entered : {m : List Row} → Entered (map (tell es) l) (f .kind) (f .txn) m → m ≡ map (tell (es ++ (f ∷ []))) l
+  pub entered : {m : List Row} → Entered (map (tell es) l) (f .kind) (f .txn) (record { 0 = f .lsn }) m → m ≡ map (tell (es ++ (f ∷ []))) l
   entered (begins k e) = e ∙ map-same (tell es) (tell (es ++ (f ∷ []))) l (λ i b. sym (tell-begin es f (getD l i blank) k))
   entered (by-zero z e) = e ∙ apart (λ i b q. real i b (q ∙ z))
-  entered (other n e) = e ∙ apart (λ i b q. n i (omega (arith, length-map l (tell es))) (number-at i b ∙ q))
+  entered (other m e) = e ∙ apart (λ i b q. m i (omega (arith, length-map l (tell es))) (number-at i b ∙ q))
   entered (own j b q e) =
       let c : j < length l = omega (arith, length-map l (tell es)) in
       let t : getD l j blank .number .0 ≡ f .txn = sym (number-at j c) ∙ q in
       let w = tell-own es f (getD l j blank) (sym t) (λ k. rw t (unended h (λ z. real j c (t ∙ z)) k)) in
-      e ∙ ap (set (map (tell es) l) j) (ap (toldBy (f .kind)) (getD-map (tell es) l j c) ∙ sym w)
+      e ∙ ap (set (map (tell es) l) j) (ap (toldBy (f .kind) (record { 0 = f .lsn })) (getD-map (tell es) l j c) ∙ sym w)
       ∙ map-set (tell es) (tell (es ++ (f ∷ []))) l j c (λ i p n. sym (tell-other es f (getD l i blank) (λ k. distinct i j p c n (sym k ∙ sym t))))

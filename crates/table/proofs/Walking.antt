@@ -8,7 +8,7 @@ use lib.ListN.{length, getD, length-append}
 use Rattle.wal.specs.Entry.{Entry, entryOf}
 use Rattle.wal.specs.Read.{first, view}
 use Rattle.wal.specs.Walk.{entries, endOf}
-use Rattle.wal.specs.Prefix.{said, Stands, Met, before, onward}
+use Rattle.wal.specs.Prefix.{entryIn, said, Stands, Met, before, onward}
 use Rattle.wal.specs.declared.EntryView.{EntryView}
 use Rattle.wal.proofs.Prefix.{Along, start, more, along, stands-at, before-first, view-kind, view-txn, before-next, before-end, onward-next, met-split, met-le}
 use Rattle.wal.proofs.Known.{Ahead}
@@ -51,6 +51,11 @@ entries-few {s} m = go (along m)
 pub arrived : {s : List ℕ} {p end : ℕ} → Met s p → endOf s ≡ end → end ≤ p → p ≡ endOf s
 arrived {s} m e h = omega (arith, met-le s m)
 
+-- the LSN of the entry that was read
+pub lsn-read : (s : List ℕ) (p : ℕ) {v : EntryView} → v ≡ entryIn s p → v .lsn ≡ record { 0 = said s p .lsn }
+unfolding entryOf
+lsn-read s p e = ap (λ (u : EntryView). u .lsn) e
+
 -- ---- entries entered into the rows l, that were there at the start
 
 module _ {s : List ℕ} {from : ℕ} {l : List Row} (u : Untold s from l) {p : ℕ} (m : Met s p) (r : List Row) (q : r ≡ map (tell (before s p)) l) where
@@ -60,9 +65,9 @@ module _ {s : List ℕ} {from : ℕ} {l : List Row} (u : Untold s from l) {p : �
   pub walk-small : (n : ℕ) → p ≤ n → (i : ℕ) → i < length r → getD r i blank .changes ≤ n
   walk-small n b = subst (λ (x : List Row). (i : ℕ) → i < length x → getD x i blank .changes ≤ n) (sym q) (λ i h. omega (arith, told-changes (before s p) l i h, entries-few m))
 
-  pub walk-next : Orderly s → {end : ℕ} {v : EntryView} → Ahead s p end v → {d : List Row} → Entered r (v .kind) (v .txn .0) d → d ≡ map (tell (before s (p + v .length))) l
+  pub walk-next : Orderly s → {end : ℕ} {v : EntryView} → Ahead s p end v → {d : List Row} → Entered r (v .kind) (v .txn .0) (v .lsn) d → d ≡ map (tell (before s (p + v .length))) l
   walk-next o {end} {v} k {d} e =
-      let t : Entered (map (tell (before s p)) l) (said s p .kind) (said s p .txn) d = rw (q, view-kind s p (k .is), view-txn s p (k .is)) at e in
+      let t : Entered (map (tell (before s p)) l) (said s p .kind) (said s p .txn) (record { 0 = said s p .lsn }) d = rw (q, view-kind s p (k .is), view-txn s p (k .is), lsn-read s p (k .is)) at e in
       entered (before s p) (said s p) (passes-at o m (k .stands)) l (u .rising) (u .real) t ∙ ap (λ (es : List Entry). map (tell es) l) (sym (before-next s m (k .stands)) ∙ ap (before s) (ap (λ (n : ℕ). p + n) (sym (k .long))))
 
   pub walk-end : {end : ℕ} → endOf s ≡ end → end ≤ p → r ≡ map (tell (entries s)) l

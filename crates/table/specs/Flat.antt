@@ -1,4 +1,4 @@
--- The transaction table as plain numbers, `stride` for each record: number, first LSN, outcome, changes.
+-- The transaction table as plain numbers, `stride` for each record: number, first LSN, outcome, changes, LSN of its ending, LSN of its last change.
 use Prim.Native.Nat.{ℕ}
 use mathlib.Core.List.{List, [], _∷_, _++_}
 use lib.ListN.{length, drop}
@@ -8,14 +8,14 @@ use Rattle.rules.specs.declared.Record.{Record}
 
 -- how many numbers a record has
 abbrev pub stride : ℕ
-stride = 4
+stride = 6
 
-abbrev pub four : Record → List ℕ
-four r = r .number .0 ∷ r .first .0 ∷ r .outcome ∷ r .changes ∷ []
+abbrev pub six : Record → List ℕ
+six r = r .number .0 ∷ r .first .0 ∷ r .outcome ∷ r .changes ∷ r .ending .0 ∷ r .last .0 ∷ []
 
 unfoldable pub flat : List Record → List ℕ
 flat [] = []
-flat (r ∷ rs) = four r ++ flat rs
+flat (r ∷ rs) = six r ++ flat rs
 
 -- a table after the entries: their records, and behind them what was there
 unfoldable pub flatAfter : List Entry → List ℕ → List ℕ

@@ -56,7 +56,7 @@ pub record Next (s : List ℕ) (end : ℕ) (xs : List ℕ) (i : ℕ) : Type 0 wh
   pub held : 0 < i → HeldTo s xs i
 
 abbrev pub noRecord : Record
-noRecord = record { number = record { 0 = 0 }; first = record { 0 = 0 }; outcome = 0; changes = 0 }
+noRecord = record { number = record { 0 = 0 }; first = record { 0 = 0 }; outcome = 0; changes = 0; ending = record { 0 = 0 }; last = record { 0 = 0 } }
 
 -- how many records an answer tells of: one for each transaction; refused, none
 unfoldable pub due : Answer → ℕ

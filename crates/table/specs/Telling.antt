@@ -11,9 +11,9 @@ use Rattle.wal.specs.Entry.{Entry, begin, commit, rollback}
 use Rattle.wal.specs.Read.{first}
 use Rattle.wal.specs.Walk.{entries, endOf}
 use Rattle.wal.specs.Prefix.{Met, before, onward}
-use Rattle.rules.specs.Shape.{both, isChange, isChanging}
-use Rattle.rules.specs.Order.{count, isBegin, neverFull, orderFrom}
-use Rattle.rules.specs.Recover.{outcomeOf}
+use Rattle.rules.specs.Shape.{isChanging}
+use Rattle.rules.specs.Order.{count, isBegin, lastLsn, neverFull, orderFrom}
+use Rattle.rules.specs.Recover.{outcomeOf, isChangeBy, isEndOf, those}
 use Rattle.table.specs.Flat.{stride}
 use Rattle.table.specs.Rows.{blank, rows, Rising}
 use Rattle.table.specs.declared.Row.{Row}
@@ -34,7 +34,7 @@ Orderly s = orderFrom neverFull [] (entries s) first .number ≡ 0
 
 -- the row of a Begin by its number and its LSN, before any other entry of its transaction
 abbrev pub newRow : TxnNumber → Lsn → Row
-newRow t l = record { number = t; first = l; outcome = 0; changes = 0 }
+newRow t l = record { number = t; first = l; outcome = 0; changes = 0; ending = record { 0 = 0 }; last = record { 0 = 0 } }
 
 abbrev pub fresh : Entry → Row
 fresh e = newRow (record { 0 = e .txn }) (record { 0 = e .lsn })
@@ -62,23 +62,25 @@ tell es r =
       number = r .number;
       first = r .first;
       outcome = outcomeOf es (r .number .0);
-      changes = count (λ f. both (isChange f) (eqb (f .txn) (r .number .0))) es;
+      changes = count (isChangeBy (r .number .0)) es;
+      ending = record { 0 = lastLsn (those (isEndOf (r .number .0)) es) };
+      last = record { 0 = lastLsn (those (isChangeBy (r .number .0)) es) };
     }
 
--- the row after one more entry of its transaction, of a type
-unfoldable pub toldBy : ℕ → Row → Row
-toldBy kind r =
-    pick (eqb kind commit) (record { number = r .number; first = r .first; outcome = 1; changes = r .changes })
-    (pick (eqb kind rollback) (record { number = r .number; first = r .first; outcome = 2; changes = r .changes })
-    (pick (isChanging kind) (record { number = r .number; first = r .first; outcome = r .outcome; changes = r .changes + 1 })
+-- the row after one more entry of its transaction, of a type and an LSN
+unfoldable pub toldBy : ℕ → Lsn → Row → Row
+toldBy kind lsn r =
+    pick (eqb kind commit) (record { number = r .number; first = r .first; outcome = 1; changes = r .changes; ending = lsn; last = r .last })
+    (pick (eqb kind rollback) (record { number = r .number; first = r .first; outcome = 2; changes = r .changes; ending = lsn; last = r .last })
+    (pick (isChanging kind) (record { number = r .number; first = r .first; outcome = r .outcome; changes = r .changes + 1; ending = r .ending; last = lsn })
     r))
 
--- the rows l became m by an entry of a type and a transaction
-pub data Entered (l : List Row) (kind t : ℕ) (m : List Row) : Type 0 where
-  begins : kind ≡ begin → m ≡ l → Entered l kind t m
-  zero : t ≡ 0 → m ≡ l → Entered l kind t m
-  other : ((i : ℕ) → i < length l → getD l i blank .number .0 ≡ t → ⊥) → m ≡ l → Entered l kind t m
-  own : (j : ℕ) → j < length l → getD l j blank .number .0 ≡ t → m ≡ set l j (toldBy kind (getD l j blank)) → Entered l kind t m
+-- the rows l became m by an entry of a type, a transaction and an LSN
+pub data Entered (l : List Row) (kind t : ℕ) (lsn : Lsn) (m : List Row) : Type 0 where
+  begins : kind ≡ begin → m ≡ l → Entered l kind t lsn m
+  zero : t ≡ 0 → m ≡ l → Entered l kind t lsn m
+  other : ((i : ℕ) → i < length l → getD l i blank .number .0 ≡ t → ⊥) → m ≡ l → Entered l kind t lsn m
+  own : (j : ℕ) → j < length l → getD l j blank .number .0 ≡ t → m ≡ set l j (toldBy kind lsn (getD l j blank)) → Entered l kind t lsn m
 
 -- rows that can be told from a place on: their numbers rise, none is 0, and no entry before the place is of one of them
 pub record Untold (s : List ℕ) (from : ℕ) (l : List Row) : Type 0 where

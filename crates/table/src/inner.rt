@@ -111,19 +111,24 @@ fn is_change(kind: u8) -> bool
     kind == 10
 }
 
-// The row after one more entry of its transaction, of a type.
-fn told(r: Row, kind: u8) -> Row
+// The row after one more entry of its transaction, of a type and an LSN.
+fn told(r: Row, kind: u8, lsn: Lsn) -> Row
     requires { ⌜ r .changes < 18446744073709551615 ⌝ }
-    ensures { λ q. ⌜ q ≡ toldBy kind r ⌝ }
+    ensures { λ q. ⌜ q ≡ toldBy kind lsn r ⌝ }
 {
     let number = r.number;
     let first = r.first;
+    let changes = r.changes;
+    let ending = r.ending;
+    let last = r.last;
     if kind == COMMIT {
         return Row {
             number: number,
             first: first,
             outcome: 1,
-            changes: r.changes,
+            changes: changes,
+            ending: lsn,
+            last: last,
         };
     }
     if kind == ROLLBACK {
@@ -131,7 +136,9 @@ fn told(r: Row, kind: u8) -> Row
             number: number,
             first: first,
             outcome: 2,
-            changes: r.changes,
+            changes: changes,
+            ending: lsn,
+            last: last,
         };
     }
     if is_change(kind) {
@@ -139,18 +146,20 @@ fn told(r: Row, kind: u8) -> Row
             number: number,
             first: first,
             outcome: r.outcome,
-            changes: r.changes + 1,
+            changes: changes + 1,
+            ending: ending,
+            last: lsn,
         };
     }
     r
 }
 
 // Enters an entry of transaction t, after `seen` Begins: the row of a Begin is guessed to be the next one. Says how many Begins were seen then.
-fn enter(a: &mut [u64], guesses: &mut [u32], seen: usize, kind: u8, t: TxnNumber) -> usize
+fn enter(a: &mut [u64], guesses: &mut [u32], seen: usize, kind: u8, t: TxnNumber, lsn: Lsn) -> usize
     requires { ⌜ Rising 0 (rows (now a)) ⌝ }
     requires { ⌜ ((i : ℕ) → i < length (rows (now a)) → getD (rows (now a)) i blank .changes < 18446744073709551615) ⌝ }
     requires { ⌜ Full (now a) × (guessed ≤ length (now guesses)) × (length (now a) / stride < 4294967296) × (seen < 4294967296) ⌝ }
-    ensures { λ _. ⌜ Entered (rows (now (a .entry))) kind (t .0) (rows (now (a .exit))) ⌝ }
+    ensures { λ _. ⌜ Entered (rows (now (a .entry))) kind (t .0) lsn (rows (now (a .exit))) ⌝ }
     ensures { λ r. ⌜ r ≤ seen + 1 ⌝ }
 {
     if t.0 == 0 {
@@ -165,7 +174,7 @@ fn enter(a: &mut [u64], guesses: &mut [u32], seen: usize, kind: u8, t: TxnNumber
         return seen;
     }
     let r = row_at(a, j);
-    put(a, j, told(r, kind));
+    put(a, j, told(r, kind, lsn));
     seen
 }
 
@@ -185,7 +194,8 @@ fn enter_all(log: &[u8], from: usize, end: usize, a: &mut [u64], guesses: &mut [
             return;
         };
         let t = e.txn;
-        seen = enter(a, guesses, seen, e.kind, t);
+        let l = e.lsn;
+        seen = enter(a, guesses, seen, e.kind, t, l);
         at = at + e.length;
     }
 }
@@ -228,6 +238,8 @@ fn begins(log: &[u8], from: usize, end: usize, a: &mut [u64]) -> Taken
                 first: l,
                 outcome: 0,
                 changes: 0,
+                ending: Lsn(0),
+                last: Lsn(0),
             },
         );
         n += 1;
@@ -293,21 +305,23 @@ fn begin_row(a: &mut [u64], guesses: &mut [u32], n: usize, t: TxnNumber, l: Lsn)
             first: l,
             outcome: 0,
             changes: 0,
+            ending: Lsn(0),
+            last: Lsn(0),
         },
     );
     keep(guesses, t, n);
 }
 
 // Enters an entry into the first n rows.
-fn enter_front(a: &mut [u64], n: usize, guesses: &mut [u32], kind: u8, t: TxnNumber)
+fn enter_front(a: &mut [u64], n: usize, guesses: &mut [u32], kind: u8, t: TxnNumber, lsn: Lsn)
     requires { ⌜ Rising 0 (take n (rows (now a))) ⌝ }
     requires { ⌜ ((i : ℕ) → i < length (take n (rows (now a))) → getD (take n (rows (now a))) i blank .changes < 18446744073709551615) ⌝ }
     requires { ⌜ (n ≤ length (now a) / stride) × (guessed ≤ length (now guesses)) × (n < 4294967296) ⌝ }
-    ensures { λ _. ⌜ Entered (take n (rows (now (a .entry)))) kind (t .0) (take n (rows (now (a .exit)))) ⌝ }
+    ensures { λ _. ⌜ Entered (take n (rows (now (a .entry)))) kind (t .0) lsn (take n (rows (now (a .exit)))) ⌝ }
     ensures { λ _. ⌜ drop n (rows (now (a .exit))) ≡ drop n (rows (now (a .entry))) ⌝ }
 {
     let cut = STRIDE * n;
-    enter(&mut a[..cut], guesses, n, kind, t);
+    enter(&mut a[..cut], guesses, n, kind, t, lsn);
 }
 
 // The rows of all Begins, told by all entries, in one walk, as long as their numbers rise. Says whether they do.
@@ -326,15 +340,15 @@ fn rising(log: &[u8], end: usize, a: &mut [u64], guesses: &mut [u32]) -> bool
             return true;
         };
         let t = e.txn;
+        let l = e.lsn;
         if e.kind != BEGIN {
-            enter_front(a, n, guesses, e.kind, t);
+            enter_front(a, n, guesses, e.kind, t, l);
             at = at + e.length;
             continue;
         }
         if t.0 <= last {
             return false;
         }
-        let l = e.lsn;
         begin_row(a, guesses, n, t, l);
         last = t.0;
         n += 1;

@@ -6,7 +6,7 @@ pub mod inner;
 mod rows;
 
 // How many numbers a record has in a table of numbers.
-pub const STRIDE: usize = 4;
+pub const STRIDE: usize = 6;
 
 // What a table of numbers says of a transaction.
 pub struct Row {
@@ -14,4 +14,6 @@ pub struct Row {
     pub first: Lsn,
     pub outcome: u64,
     pub changes: u64,
+    pub ending: Lsn,
+    pub last: Lsn,
 }

@@ -140,6 +140,8 @@ fn by_oracle(magic: u64, given: Given) -> Left {
             first_lsn: record.first_lsn,
             outcome: record.outcome,
             changes: record.changes,
+            ending_lsn: record.ending_lsn,
+            last_change_lsn: record.last_change_lsn,
         })
         .collect();
     let answer = oracle::recover(magic, given.floor, &mut pages, given.log, &mut records);
@@ -149,6 +151,8 @@ fn by_oracle(magic: u64, given: Given) -> Left {
             record.first_lsn,
             record.outcome,
             record.changes,
+            record.ending_lsn,
+            record.last_change_lsn,
         ]);
     }
     Left {

@@ -5,7 +5,7 @@ mod c;
 pub mod refusal;
 
 /// The version of the C interface that these functions are for.
-pub const VERSION: u32 = 1;
+pub const VERSION: u32 = 2;
 
 /// The bytes of a page.
 pub const PAGE_BYTES: usize = 16_384;
@@ -103,8 +103,8 @@ numbers! {
 }
 
 numbers! {
-    /// One transaction of the log.
-    Record: 4 { number, first_lsn, outcome, changes }
+    /// One transaction of the log. The LSNs of its Commit or Rollback and of its last change are 0 where it has none.
+    Record: 6 { number, first_lsn, outcome, changes, ending_lsn, last_change_lsn }
 }
 
 numbers! {
@@ -280,8 +280,8 @@ pub fn verify_from(magic: u64, pages: &[u8], first: u64) -> Verdict {
     })
 }
 
-/// Mends the pages by the log and fills the table: four numbers a record, read by `records`. Refused, pages and table
-/// keep what they hold.
+/// Mends the pages by the log and fills the table, `RECORD_NUMBERS` numbers a record, read by `records`. Refused, pages and
+/// table keep what they hold.
 pub fn recover(magic: u64, floor: u64, pages: &mut [u8], log: &[u8], table: &mut [u64]) -> Answer {
     filled(|out, out_len| unsafe {
         c::lq_recover(
@@ -303,7 +303,7 @@ pub fn recover(magic: u64, floor: u64, pages: &mut [u8], log: &[u8], table: &mut
 pub fn records(table: &[u64]) -> impl Iterator<Item = Record> + '_ {
     table
         .chunks_exact(RECORD_NUMBERS)
-        .map(|record| Record::from([record[0], record[1], record[2], record[3]]))
+        .map(|record| Record::from(<[u64; RECORD_NUMBERS]>::try_from(record).unwrap()))
 }
 
 /// One row as recovery would leave it. Refuses as recovery does but for 10, then 15.

@@ -4,9 +4,13 @@ use std::collections::BTreeMap;
 
 use library::{Listed, Table};
 
-use crate::input::Pages;
+use crate::advice::unless_refused;
+use crate::args::{Parsed, CATALOG};
+use crate::failure::Failure;
+use crate::input::{Log, Pages, Read};
 use crate::json::Json;
 use crate::listing::rows;
+use crate::output::Output;
 use crate::show;
 
 /// A visible row whose payload reads as a table's.
@@ -82,5 +86,28 @@ impl TableNames {
 
     pub fn get(&self, table: u64) -> Option<&str> {
         self.0.get(&table).map(String::as_str)
+    }
+}
+
+/// The page file that names tables.
+pub struct Catalog {
+    pub pages: Pages,
+    pub names: TableNames,
+}
+
+impl Catalog {
+    /// What --catalog names, if it is given beside a log.
+    pub fn read(
+        parsed: &Parsed,
+        output: &mut Output,
+        log: &Log,
+    ) -> Result<Option<Catalog>, Failure> {
+        let Some(pages) = Pages::chosen(parsed, CATALOG.name)? else {
+            return Ok(None);
+        };
+        let verdict = library::verify(pages.magic, &pages.bytes);
+        unless_refused(parsed, output, verdict, Read::catalog(&pages, log))?;
+        let names = TableNames::of(&pages);
+        Ok(Some(Catalog { pages, names }))
     }
 }

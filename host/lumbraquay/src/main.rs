@@ -270,9 +270,9 @@ fn overview() -> String {
     );
     for command in commands::ALL {
         match command.name.split_once(' ') {
-            None => text += &format!("  {:<11} {}\n", command.name, command.about),
+            None => text += &format!("  {:<12} {}\n", command.name, command.about),
             Some((group, action)) if actions(group).next().is_some_and(|it| it.0 == action) => {
-                text += &format!("  {group:<11} {}\n", group_about(group));
+                text += &format!("  {group:<12} {}\n", group_about(group));
             }
             Some(_) => (),
         }

@@ -138,15 +138,9 @@ impl Mended {
             self.pages.count()
         ))?;
         if transactions {
-            output.line("  transaction  first LSN  changes  outcome")?;
+            output.line(TRANSACTIONS)?;
             for record in &self.records {
-                output.line(format_args!(
-                    "{:>13}  {:>9}  {:>7}  {}",
-                    record.number,
-                    record.first_lsn,
-                    record.changes,
-                    show::outcome(record.outcome)
-                ))?;
+                output.line(record_line(record))?;
             }
         }
         Ok(())
@@ -177,8 +171,26 @@ impl Mended {
     }
 
     pub fn transactions(&self) -> Json {
-        Json::List(self.records.iter().map(record_fields).collect())
+        let all = self.records.iter().map(record_fields).map(Json::Object);
+        Json::List(all.collect())
     }
+}
+
+/// What stands above the lines of transactions.
+pub const TRANSACTIONS: &str =
+    "  transaction  first LSN  last change  ending LSN  changes  outcome";
+
+/// One transaction in a line; an LSN that it has not is 0.
+pub fn record_line(record: &Record) -> String {
+    format!(
+        "{:>13}  {:>9}  {:>11}  {:>10}  {:>7}  {}",
+        record.number,
+        record.first_lsn,
+        record.last_change_lsn,
+        record.ending_lsn,
+        record.changes,
+        show::outcome(record.outcome)
+    )
 }
 
 /// As many records as the log can have Begins, or fewer if so chosen.
@@ -190,11 +202,13 @@ fn most(log: &Log, most: Option<u64>) -> usize {
     }
 }
 
-fn record_fields(record: &Record) -> Json {
-    Json::Object(vec![
+pub fn record_fields(record: &Record) -> Vec<(&'static str, Json)> {
+    vec![
         ("transaction", record.number.into()),
         ("first_lsn", record.first_lsn.into()),
+        ("last_change_lsn", record.last_change_lsn.into()),
+        ("ending_lsn", record.ending_lsn.into()),
         ("outcome", show::outcome(record.outcome).into()),
         ("changes", record.changes.into()),
-    ])
+    ]
 }

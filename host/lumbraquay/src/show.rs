@@ -25,6 +25,13 @@ pub const PAGE_TYPES: Names = &[
     (6, "clustered"),
 ];
 
+/// Outcomes of a transaction, as an option names them.
+pub const OUTCOMES: Names = &[
+    (library::COMMITTED, "committed"),
+    (library::ROLLED_BACK, "rolled-back"),
+    (library::UNENDED, "unended"),
+];
+
 fn name(names: Names, number: u64) -> &'static str {
     let mut names = names.iter();
     names

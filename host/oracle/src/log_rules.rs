@@ -198,13 +198,16 @@ impl Standing {
             first_lsn: entry.lsn,
             outcome: UNENDED,
             changes: 0,
+            ending_lsn: 0,
+            last_change_lsn: 0,
         });
     }
 
-    fn end(&mut self, number: u64, outcome: u64) {
-        let at = self.begun[&number];
-        self.records[at].outcome = outcome;
-        for slot in self.held.remove(&number).unwrap_or_default() {
+    fn end(&mut self, entry: &EntryFields, outcome: u64) {
+        let record = &mut self.records[self.begun[&entry.transaction]];
+        record.outcome = outcome;
+        record.ending_lsn = entry.lsn;
+        for slot in self.held.remove(&entry.transaction).unwrap_or_default() {
             self.holder.remove(&slot);
         }
     }
@@ -213,8 +216,9 @@ impl Standing {
         if change.transaction == 0 {
             return;
         }
-        let at = self.begun[&change.transaction];
-        self.records[at].changes += 1;
+        let record = &mut self.records[self.begun[&change.transaction]];
+        record.changes += 1;
+        record.last_change_lsn = change.lsn;
         let slot = (change.page, change.slot);
         self.holder.insert(slot, change.transaction);
         self.held.entry(change.transaction).or_default().push(slot);
@@ -265,10 +269,10 @@ pub(crate) fn read_log(log: &[u8], records: Option<usize>) -> Result<ReadLog, Re
             standing.begin(&entry);
         }
         if entry.kind == COMMIT {
-            standing.end(entry.transaction, COMMITTED);
+            standing.end(&entry, COMMITTED);
         }
         if entry.kind == ROLLBACK {
-            standing.end(entry.transaction, ROLLED_BACK);
+            standing.end(&entry, ROLLED_BACK);
         }
         last_lsn = entry.lsn;
         place += entry.length;

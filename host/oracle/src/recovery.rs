@@ -28,12 +28,16 @@ pub struct Answer {
 }
 
 /// One transaction of the log. Outcome: 0 unended, 1 committed, 2 rolled back.
+/// Two LSNs come behind: of the Commit or Rollback, 0 where unended, and of the
+/// last change, 0 if none.
 #[derive(Clone, Copy, Debug, PartialEq, Eq, Default)]
 pub struct Record {
     pub number: u64,
     pub first_lsn: u64,
     pub outcome: u64,
     pub changes: u64,
+    pub ending_lsn: u64,
+    pub last_change_lsn: u64,
 }
 
 /// Takes the magic, a floor LSN, pages, log and a lent table of transaction

@@ -5,6 +5,7 @@ use Prim.Native.Nat.{_/_}
 use mathlib.Core.List.{[]}
 use lib.ListN.{length}
 use borrow.Author.Needs.{needs}
+use Rattle.table.specs.Flat.{stride}
 use Rattle.rules.specs.Order.{fullAt}
 use Rattle.rules.specs.Recover.{recoverVerdict}
 use Rattle.rules.specs.declared.Answer.{Answer}
@@ -16,10 +17,10 @@ use Rattle.rules.specs.Lent.{lent}
 
 -- the verdict where the answer's number is 0
 zero : (c : tie.Then1) → let a = c .before .before .before .before .before .before .before .before .before .args in
-    recoverVerdict (fullAt (length (a .table .now) / 4)) (lent (a .magic) (a .floor .0) (a .pages .now) (a .log .now)) .number ≡ 0
+    recoverVerdict (fullAt (length (a .table .now) / stride)) (lent (a .magic) (a .floor .0) (a .pages .now) (a .log .now)) .number ≡ 0
 zero c =
     let a = c .before .before .before .before .before .before .before .before .before .args in
-    answer-zero (recoverVerdict (fullAt (length (a .table .now) / 4)) (lent (a .magic) (a .floor .0) (a .pages .now) (a .log .now))) (a .pages .now) (a .log .now) [] (sym (ap (λ (a : Answer). a .number) (c .before .before .before .before .recover .ensures .0)) ∙ c .if1 .taken)
+    answer-zero (recoverVerdict (fullAt (length (a .table .now) / stride)) (lent (a .magic) (a .floor .0) (a .pages .now) (a .log .now))) (a .pages .now) (a .log .now) [] (sym (ap (λ (a : Answer). a .number) (c .before .before .before .before .recover .ensures .0)) ∙ c .if1 .taken)
 
 fill-table-requires : tie.Need-fill-table-requires
 fill-table-requires c κs =
@@ -28,7 +29,7 @@ fill-table-requires c κs =
     let a = r .before .before .before .before .before .args in
     let z = zero t in
     let s = sure _ _ _ _ _ z in
-    (s .ordered, (sym (ap (λ (a : Answer). a .tail) (r .recover .ensures .0) ∙ answer-tail (recoverVerdict (fullAt (length (a .table .now) / 4)) (lent (a .magic) (a .floor .0) (a .pages .now) (a .log .now))) (a .pages .now) (a .log .now) [] z), s .small, begins-of _ _ _ _ _ z))
+    (s .ordered, (sym (ap (λ (a : Answer). a .tail) (r .recover .ensures .0) ∙ answer-tail (recoverVerdict (fullAt (length (a .table .now) / stride)) (lent (a .magic) (a .floor .0) (a .pages .now) (a .log .now))) (a .pages .now) (a .log .now) [] z), s .small, begins-of _ _ _ _ _ z))
 
 returns : tie.Need-returns
 returns c =
@@ -44,7 +45,7 @@ returns-2 c =
       r .recover .ensures .0 ∙ flat-answer _ _ _ _ _,
       (
         r .recover .ensures .1 ∙ flat-pages _ _ _ _ _,
-        flat-refused _ _ _ _ _ (answer-refused (recoverVerdict (fullAt (length (a .table .now) / 4)) (lent (a .magic) (a .floor .0) (a .pages .now) (a .log .now))) (a .pages .now) (a .log .now) [] (λ z. c .if1 .left (ap (λ (a : Answer). a .number) (r .recover .ensures .0) ∙ z))),
+        flat-refused _ _ _ _ _ (answer-refused (recoverVerdict (fullAt (length (a .table .now) / stride)) (lent (a .magic) (a .floor .0) (a .pages .now) (a .log .now))) (a .pages .now) (a .log .now) [] (λ z. c .if1 .left (ap (λ (a : Answer). a .number) (r .recover .ensures .0) ∙ z))),
       ),
     )
 

@@ -26,7 +26,7 @@ const BASE: usize = 1;
 
 const COUNT: usize = 2;
 
-// How many numbers a block has: 16,380 rows.
+// How many numbers a block has: 10,920 rows.
 const SCRATCH: usize = 65523;
 
 // Makes the block that begins with record i, whose Begin is the first from a place on.
@@ -76,11 +76,15 @@ fn nth_record(log: &[u8], end: usize, scratch: &mut [u64], i: usize) -> Record
     let r = row_at(&scratch[head..], j);
     let number = r.number;
     let first = r.first;
+    let ending = r.ending;
+    let last = r.last;
     Record {
         number: number,
         first: first,
         outcome: r.outcome as u8,
         changes: r.changes,
+        ending: ending,
+        last: last,
     }
 }
 

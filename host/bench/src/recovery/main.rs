@@ -52,7 +52,9 @@ fn check(input: &Input) -> Answer {
         records
             .into_iter()
             .all(|(one, other)| (one.number, one.outcome, one.changes)
-                == (other.number, other.outcome, other.changes)),
+                == (other.number, other.outcome, other.changes)
+                && (one.first_lsn, one.ending_lsn, one.last_change_lsn)
+                    == (other.first_lsn, other.ending_lsn, other.last_change_lsn)),
         "the two leave other records"
     );
     answer

@@ -26,7 +26,7 @@ fn call_everything() {
     for (lsn, entry) in (1..).zip(entries) {
         log.extend(entry.with_lsn(lsn).encode());
     }
-    let mut table = [0; 4];
+    let mut table = [0; library::RECORD_NUMBERS];
     // Begins whose numbers fall are judged by other functions than those that rise.
     let mut falling = log_header(&[0; 26]);
     for (lsn, number) in [(1, 9), (2, 8)] {
@@ -85,7 +85,13 @@ fn call_everything() {
     assert_eq!(row.payload(&pages, &log), b"late");
     let answer = library::recover(MAGIC, 0, &mut pages, &log, &mut table);
     assert_eq!((answer.number, answer.pages_rewritten), (0, 300));
-    let answer = library::recover(MAGIC, 1_000, &mut pages, &falling, &mut [0; 8]);
+    let answer = library::recover(
+        MAGIC,
+        1_000,
+        &mut pages,
+        &falling,
+        &mut [0; 2 * library::RECORD_NUMBERS],
+    );
     assert_eq!((answer.number, answer.unended), (0, 2));
 }
 

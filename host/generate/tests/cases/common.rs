@@ -11,6 +11,8 @@ pub const MARK: Record = Record {
     first_lsn: 22,
     outcome: 33,
     changes: 44,
+    ending_lsn: 55,
+    last_change_lsn: 66,
 };
 
 /// The cases of the seeds below a bound, but for those with buffers of the
@@ -155,6 +157,7 @@ pub fn answer_by_count(case: &Case, log: &[u8]) -> (Answer, Vec<Record>) {
     let mut table = Vec::new();
     for begin in entries.iter().filter(|entry| entry.kind == 1) {
         let number = begin.transaction;
+        let last_change = changes.iter().rfind(|change| change.transaction == number);
         let changes = changes_of(number);
         let outcome = if ends_with(number, 2) {
             answer.committed += 1;
@@ -169,11 +172,16 @@ pub fn answer_by_count(case: &Case, log: &[u8]) -> (Answer, Vec<Record>) {
             answer.changes_unended += changes;
             0
         };
+        let ending = entries
+            .iter()
+            .find(|entry| entry.transaction == number && matches!(entry.kind, 2 | 3));
         table.push(Record {
             number,
             first_lsn: begin.lsn,
             outcome,
             changes,
+            ending_lsn: ending.map_or(0, |entry| entry.lsn),
+            last_change_lsn: last_change.map_or(0, |entry| entry.lsn),
         });
     }
     table.resize(case.records, MARK);

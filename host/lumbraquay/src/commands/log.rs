@@ -7,9 +7,9 @@ use library::{
 
 use crate::advice::{refusal_fields, text, unless_refused};
 use crate::args::{Choice, Command, Parsed, CATALOG, JSON};
-use crate::catalog::TableNames;
+use crate::catalog::{Catalog, TableNames};
 use crate::failure::Failure;
-use crate::input::{head_fields, Log, Pages, Read};
+use crate::input::{head_fields, Log, Read};
 use crate::json::Json;
 use crate::output::Output;
 use crate::show;
@@ -62,27 +62,6 @@ struct Start {
     filter: Filter,
     payload: bool,
     catalog: Option<Catalog>,
-}
-
-/// The page file that names tables.
-struct Catalog {
-    pages: Pages,
-    names: TableNames,
-}
-
-impl Catalog {
-    /// Of the pages that --catalog names.
-    fn of(
-        parsed: &Parsed,
-        output: &mut Output,
-        pages: Pages,
-        log: &Log,
-    ) -> Result<Catalog, Failure> {
-        let verdict = library::verify(pages.magic, &pages.bytes);
-        unless_refused(parsed, output, verdict, Read::catalog(&pages, log))?;
-        let names = TableNames::of(&pages);
-        Ok(Catalog { pages, names })
-    }
 }
 
 impl Start {
@@ -138,12 +117,8 @@ fn run(parsed: &Parsed, output: &mut Output) -> Result<(), Failure> {
     let backward = parsed.flag("--backward");
     let from = parsed.chosen_number("--from")?;
     let limit = parsed.chosen_number("--limit")?.unwrap_or(u64::MAX);
-    let pages = Pages::chosen(parsed, CATALOG.name)?;
     let log = Log::read(parsed, 0)?;
-    let catalog = match pages {
-        Some(pages) => Some(Catalog::of(parsed, output, pages, &log)?),
-        None => None,
-    };
+    let catalog = Catalog::read(parsed, output, &log)?;
     let opened = library::log_open(&log.bytes, backward);
     unless_refused(parsed, output, opened, Read::log(&log))?;
     if let Some(inside) = from.and_then(|from| around(&log, from)) {

@@ -16,6 +16,7 @@ mod rows;
 mod summary;
 mod table;
 mod tables;
+mod transactions;
 mod verify;
 
 use library::refusal::NO_SUCH_PAGE;
@@ -30,6 +31,7 @@ use crate::output::Output;
 pub const ALL: &[Command] = &[
     demo::COMMAND,
     recover::COMMAND,
+    transactions::COMMAND,
     repair::COMMAND,
     verify::COMMAND,
     log::COMMAND,

@@ -65,7 +65,7 @@ pub fn transactions(mended: &Mended) -> String {
         return "<p class=\"note\">The log has none.</p>\n".to_string();
     }
     let mut html = String::from(
-        "<div class=\"wide\"><table>\n<tr><th>Number<th>First LSN<th>Changes<th>Outcome</tr>\n",
+        "<div class=\"wide\"><table>\n<tr><th>Number<th>First LSN<th>Last change<th>Ending LSN<th>Changes<th>Outcome</tr>\n",
     );
     for record in mended.records.iter().take(MOST_ROWS) {
         let outcome = match record.outcome {
@@ -73,9 +73,11 @@ pub fn transactions(mended: &Mended) -> String {
             outcome => show::outcome(outcome),
         };
         html += &format!(
-            "<tr><td class=\"n\">{}</td><td class=\"n\">{}</td><td class=\"n\">{}</td><td><span class=\"mark {}\"></span>{outcome}</td></tr>\n",
+            "<tr><td class=\"n\">{}</td><td class=\"n\">{}</td><td class=\"n\">{}</td><td class=\"n\">{}</td><td class=\"n\">{}</td><td><span class=\"mark {}\"></span>{outcome}</td></tr>\n",
             record.number,
             record.first_lsn,
+            record.last_change_lsn,
+            record.ending_lsn,
             record.changes,
             class(record.outcome)
         );

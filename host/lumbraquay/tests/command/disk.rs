@@ -101,6 +101,7 @@ fn standard_output_that_is_full_or_closed() {
         "verify outage.pages",
         "rows outage.pages",
         "row outage.pages outage.log 1 0",
+        "transactions outage.pages outage.log",
         "tables outage.pages",
         "table outage.pages 14",
         "repeats outage.pages",

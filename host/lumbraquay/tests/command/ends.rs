@@ -39,6 +39,7 @@ fn every_end_has_a_result() {
         "log outage.log --catalog outage.pages",
         "pages outage.pages",
         "row outage.pages outage.log 1 1",
+        "transactions outage.pages outage.log",
         "report outage.pages outage.log",
         "replay 7",
         "replay 7 --count 3",

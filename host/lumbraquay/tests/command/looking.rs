@@ -462,3 +462,82 @@ fn slow_runs_say_so() {
         assert_eq!(told, expected);
     }
 }
+
+/// The list of transactions is the table of the second program, whole and by outcome.
+#[test]
+fn transactions_are_those_of_the_second_program() {
+    let sandbox = Sandbox::new();
+    let (mut seen, mut final_ones) = (0, 0);
+    for seed in 0..120 {
+        let generate::Case {
+            magic,
+            floor,
+            mut pages,
+            log,
+            ..
+        } = generate::case(seed);
+        if pages.is_empty() || pages.len() > 40 * PAGE_BYTES || log.len() > 200_000 {
+            continue;
+        }
+        sandbox.write("pages", &pages);
+        sandbox.write("log", &log);
+        let mut table = vec![Record::default(); 5_000];
+        let answer = oracle::recover(magic, floor, &mut pages, &log, &mut table);
+        if answer.number != 0 {
+            continue;
+        }
+        let count = answer.committed + answer.rolled_back + answer.unended;
+        let expected: Vec<[u64; 5]> = table[..count as usize]
+            .iter()
+            .map(|it| {
+                [
+                    it.number,
+                    it.first_lsn,
+                    it.last_change_lsn,
+                    it.ending_lsn,
+                    it.changes,
+                ]
+            })
+            .collect();
+        let words = format!("transactions pages log --json --magic {magic} --floor {floor}");
+        let told = |more: &str| -> Vec<[u64; 5]> {
+            let told = sandbox.say(&format!("{words}{more}")).done().json();
+            let names = [
+                "transaction",
+                "first_lsn",
+                "last_change_lsn",
+                "ending_lsn",
+                "changes",
+            ];
+            let list = told.list("transactions");
+            list.iter()
+                .map(|it| names.map(|name| it.number(name)))
+                .collect()
+        };
+        assert_eq!(told(""), expected, "seed {seed}");
+        let mut parts: Vec<[u64; 5]> = [
+            " --outcome committed",
+            " --outcome rolled-back",
+            " --outcome unended",
+        ]
+        .iter()
+        .flat_map(|more| told(more))
+        .collect();
+        parts.sort_by_key(|it| it[1]);
+        assert_eq!(parts, expected, "seed {seed}");
+        seen += expected.len();
+        final_ones += expected
+            .iter()
+            .filter(|it| it[2] != 0 && it[3] != 0)
+            .count();
+    }
+    assert!(seen > 50 && final_ones > 20, "{seen} {final_ones}");
+}
+
+#[test]
+fn an_outcome_that_is_none_is_told() {
+    let sandbox = Sandbox::with_outage();
+    sandbox
+        .say("transactions outage.pages outage.log --outcome lost")
+        .fails(&["--outcome is 'lost', none of committed (1), rolled-back (2), unended (0)"]);
+}

@@ -260,24 +260,24 @@ fn as_json() {
     assert_eq!(done.text("magic_from"), "read off page 0");
     assert_eq!(done.text("written_to"), "outage.pages.recovered");
     assert!(done.is_null("backup"));
-    let told: Vec<(u64, u64, &str, u64)> = done
+    let told: Vec<(u64, [u64; 3], &str, u64)> = done
         .list("transactions")
         .iter()
         .map(|it| {
             (
                 it.number("transaction"),
-                it.number("first_lsn"),
+                ["first_lsn", "last_change_lsn", "ending_lsn"].map(|name| it.number(name)),
                 it.text("outcome"),
                 it.number("changes"),
             )
         })
         .collect();
     let expected = [
-        (7, 101, "committed", 1),
-        (8, 102, "rolled back", 1),
-        (9, 106, "unended", 1),
-        (10, 109, "committed", 1),
-        (11, 114, "unended", 0),
+        (7, [101, 104, 105], "committed", 1),
+        (8, [102, 103, 108], "rolled back", 1),
+        (9, [106, 107, 0], "unended", 1),
+        (10, [109, 110, 111], "committed", 1),
+        (11, [114, 0, 0], "unended", 0),
     ];
     assert_eq!(told, expected);
 
@@ -302,8 +302,8 @@ fn transactions_are_listed_if_asked_for() {
     assert!(!plain.out.contains("first LSN"));
     let words = format!("{words} --transactions");
     sandbox.say(&words).done().says(&[
-        "  transaction  first LSN  changes  outcome\n            7        101        1  committed\n",
-        "           11        114        0  unended\n",
+        "  transaction  first LSN  last change  ending LSN  changes  outcome\n            7        101          104         105        1  committed\n",
+        "           11        114            0           0        0  unended\n",
     ]);
 }
 

@@ -2,9 +2,10 @@
 
 use crate::sandbox::Sandbox;
 
-pub const COMMANDS: [&str; 19] = [
+pub const COMMANDS: [&str; 20] = [
     "demo",
     "recover",
+    "transactions",
     "repair",
     "verify",
     "log",

@@ -267,6 +267,8 @@ fn table_keeps_later_records() {
         first_lsn: 2,
         outcome: 3,
         changes: 4,
+        ending_lsn: 5,
+        last_change_lsn: 6,
     };
     let row = tuple(24, 1);
     let mut log = Log::new();
@@ -283,16 +285,18 @@ fn table_keeps_later_records() {
     let mut pages = data_page(0, 0, &[]);
     let answer = recover(MAGIC, 0, &mut pages, &log.bytes, &mut table);
     assert_eq!(answer.number, 0);
-    let record = |number, first_lsn, outcome, changes| Record {
+    let record = |number, first_lsn, outcome, changes, ending_lsn, last_change_lsn| Record {
         number,
         first_lsn,
         outcome,
         changes,
+        ending_lsn,
+        last_change_lsn,
     };
     let expected = [
-        record(9, 2, 1, 2),
-        record(u64::MAX, 3, 0, 0),
-        record(2, 6, 2, 1),
+        record(9, 2, 1, 2, 9, 5),
+        record(u64::MAX, 3, 0, 0, 0, 0),
+        record(2, 6, 2, 1, 8, 7),
         mark,
         mark,
     ];

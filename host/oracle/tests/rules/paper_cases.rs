@@ -136,6 +136,8 @@ fn insert_with_commit_leaves_the_row() {
             first_lsn: 1,
             outcome: 1,
             changes: 1,
+            ending_lsn: 3,
+            last_change_lsn: 2,
         };
         assert_eq!(table, [filled, Record::default()]);
     }

@@ -33,6 +33,13 @@ told-requires c κs =
     let e = ap (λ (r : Row). r .changes) (read .row-at .ensures) in
     omega (arith, e, start .pre .1 .0 (find .find .result) (omega (arith, rows-length (start .args .a .now), read .before .before .if3 .left)))
 
+put-requires : tie.Need-put-requires
+put-requires c κs =
+    let read = c .before .before in
+    let find = read .before .before .before .before .before in
+    let start = find .before .before .before .before .before .before .before .before in
+    (start .pre .1 .1 .0, omega (arith, read .before .before .if3 .left))
+
 returns-4 : tie.Need-returns-4
 returns-4 c =
     let put = c .before .before in
@@ -41,11 +48,11 @@ returns-4 c =
     let start = find .before .before .before .before .before .before .before .before in
     let below : find .find .result < length (rows (start .args .a .now)) = omega (arith, rows-length (start .args .a .now), read .before .before .if3 .left) in (
       own (find .find .result) below (found-number (find .find .ensures) below)
-          (put .put .ensures ∙ ap (set (rows (start .args .a .now)) (find .find .result)) (put .before .told .ensures ∙ ap (toldBy (start .args .kind)) (read .row-at .ensures))),
+          (put .put .ensures ∙ ap (set (rows (start .args .a .now)) (find .find .result)) (put .before .told .ensures ∙ ap (toldBy (start .args .kind) (start .args .lsn)) (read .row-at .ensures))),
       omega arith,
     )
 
 pub enter-spec : {M : Type 1} → statement M
 enter-spec =
     tie.close
-    (tie.spec returns (λ c κs. search needs) (λ c. search needs) (λ c. search needs) returns-2 (λ c κs. search needs) (λ c. search needs) (λ c. search needs) returns-3 (λ c κs. search needs) told-requires (λ c κs. search needs) (λ c. search needs) (λ c. search needs) returns-4)
+    (tie.spec returns (λ c κs. search needs) (λ c. search needs) (λ c. search needs) returns-2 (λ c κs. search needs) (λ c. search needs) (λ c. search needs) returns-3 (λ c κs. search needs) told-requires put-requires (λ c. search needs) (λ c. search needs) returns-4)

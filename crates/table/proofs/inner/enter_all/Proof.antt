@@ -42,22 +42,22 @@ returns c =
 
 enter-requires : tie.Need-enter-requires Inv-loop μ-loop
 enter-requires c κs =
-    let turn = c .before .before in
+    let turn = c .before .before .before in
     let at-loop = turn .before .before .before .before .before in
     let start = at-loop .before .before .before .before in
     let inv = at-loop .loop .inv in
     (walk-rising (start .pre .1 .1 .1 .0) (inv .0) _ (inv .4), (λ i h. omega (arith, walk-small (start .pre .1 .1 .1 .0) (inv .0) _ (inv .4) 4294967296 (omega (arith, met-small _ (inv .0))) i h), (omega arith, omega arith, omega arith, omega (arith, met-small _ (inv .0)))))
 
 add-at : tie.Need-add-at Inv-loop μ-loop
-add-at c = let k = here (c .before .before .before .before .before .before .before .before) in omega (arith, k .next)
+add-at c = let k = here (c .before .before .before .before .before .before .before .before .before) in omega (arith, k .next)
 
 loop-less : tie.Need-loop-less Inv-loop μ-loop
-loop-less c = let k = here (c .before .before .before .before .before .before .before .before) in omega (arith, k .next, k .low)
+loop-less c = let k = here (c .before .before .before .before .before .before .before .before .before) in omega (arith, k .next, k .low)
 
 loop-again : tie.Need-loop-again Inv-loop μ-loop
 loop-again c =
     let enter = c .before .before .before .before .before in
-    let turn = enter .before .before .before in
+    let turn = enter .before .before .before .before in
     let k = here turn in
     let at-loop = turn .before .before .before .before .before in
     let start = at-loop .before .before .before .before in

@@ -45,30 +45,30 @@ returns c =
 
 enter-front-requires : tie.Need-enter-front-requires Inv-loop μ-loop
 enter-front-requires c κs =
-    let at-loop = c .before .before .before .before .before .before .before .before .before in
+    let at-loop = c .before .before .before .before .before .before .before .before .before .before in
     let start = at-loop .before .before .before .before in
     let inv = at-loop .loop .inv in
     (risen-rising (inv .2), (λ i h. omega (arith, risen-small (inv .2) 4294967296 (omega (arith, met-small _ (inv .2 .met))) i h), (omega (arith, inv .0, risen-fits (inv .2) (start .pre .1 .0 .2)), omega (arith, inv .1, start .pre .1 .1 .1), omega (arith, risen-few (inv .2), met-small _ (inv .2 .met)))))
 
 add-at : tie.Need-add-at Inv-loop μ-loop
 add-at c =
-    let turn = c .before .before .before .before .before .before .before .before .before .before in
+    let turn = c .before .before .before .before .before .before .before .before .before .before .before in
     omega (arith, here turn .next, end-small turn)
 
 loop-less : tie.Need-loop-less Inv-loop μ-loop
-loop-less c = let k = here (c .before .before .before .before .before .before .before .before .before .before) in omega (arith, k .next, k .low)
+loop-less c = let k = here (c .before .before .before .before .before .before .before .before .before .before .before) in omega (arith, k .next, k .low)
 
 loop-again : tie.Need-loop-again Inv-loop μ-loop
 loop-again c =
     let enter = c .before .before .before .before .before in
-    let turn = enter .before .before .before .before .before in
+    let turn = enter .before .before .before .before .before .before in
     let at-loop = turn .before .before .before .before .before in
     let start = at-loop .before .before .before .before in
     let inv = at-loop .loop .inv in
     (enter .enter-front .kept .0 ∙ inv .0, enter .enter-front .kept .1 .1 .0 ∙ inv .1, risen-other (inv .2) (start .pre .0) (here turn) (enter .before .before .before .if1 .taken) (enter .enter-front .ensures .0) (enter .enter-front .ensures .1))
 
 falls : tie.Need-returns-2 Inv-loop μ-loop
-falls c = (λ z. false-true z, risen-rest (c .before .before .before .before .before .before .before .before .before .loop .inv .2))
+falls c = (λ z. false-true z, risen-rest (c .before .before .before .before .before .before .before .before .before .before .loop .inv .2))
 
 begin-row-requires : tie.Need-begin-row-requires Inv-loop μ-loop
 begin-row-requires c κs =
@@ -78,7 +78,7 @@ begin-row-requires c κs =
     let inv = at-loop .loop .inv in (
       omega (arith, inv .0, start .pre .1 .1 .0),
       omega (arith, inv .1, start .pre .1 .1 .1),
-      omega (arith, inv .0, risen-room (inv .2) (start .pre .0) (here turn) (c .before .before .before .before .before .if1 .left) (start .pre .1 .0 .2)),
+      omega (arith, inv .0, risen-room (inv .2) (start .pre .0) (here turn) (c .before .before .before .before .if1 .left) (start .pre .1 .0 .2)),
       omega (arith, risen-few (inv .2), met-small _ (inv .2 .met)),
     )
 
@@ -102,11 +102,11 @@ loop-again-2 c =
     let at-loop = turn .before .before .before .before .before in
     let start = at-loop .before .before .before .before in
     let inv = at-loop .loop .inv in
-    let begins = row .before .before .before .before .before .before .if1 .left in
-    (row .begin-row .kept .0 ∙ inv .0, row .begin-row .kept .1 .0 ∙ inv .1, risen-begin (inv .2) (start .pre .0) (here turn) begins (risen-room (inv .2) (start .pre .0) (here turn) begins (start .pre .1 .0 .2)) (row .before .before .before .before .if2 .left) (row .begin-row .ensures))
+    let begins = row .before .before .before .before .before .if1 .left in
+    (row .begin-row .kept .0 ∙ inv .0, row .begin-row .kept .1 .0 ∙ inv .1, risen-begin (inv .2) (start .pre .0) (here turn) begins (risen-room (inv .2) (start .pre .0) (here turn) begins (start .pre .1 .0 .2)) (row .before .before .before .if2 .left) (row .begin-row .ensures))
 
 pub rising-spec : {M : Type 1} → statement M
 rising-spec =
     tie.close
     (tie.spec Inv-loop μ-loop loop-holds known-at-requires (λ c. search needs) (λ c. c .before .before .loop .inv .0) (λ c. c .before .before .loop .inv .1) returns enter-front-requires add-at loop-less loop-again
-    (λ c. c .before .before .before .before .before .before .before .before .before .loop .inv .0) (λ c. c .before .before .before .before .before .before .before .before .before .loop .inv .1) falls begin-row-requires add-n add-at-2 loop-less-2 loop-again-2)
+    (λ c. c .before .before .before .before .before .before .before .before .before .before .loop .inv .0) (λ c. c .before .before .before .before .before .before .before .before .before .before .loop .inv .1) falls begin-row-requires add-n add-at-2 loop-less-2 loop-again-2)

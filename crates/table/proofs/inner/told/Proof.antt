@@ -17,7 +17,7 @@ rolls-back c = rw (c .if2 .taken)
 
 changes : tie.Need-returns-3
 unfolding toldBy
-changes c = rw (ne-eqb _ _ (c .before .before .before .before .if1 .left), ne-eqb _ _ (c .before .before .before .if2 .left), ← c .before .before .is-change .ensures, c .before .if3 .taken)
+changes c = rw (ne-eqb _ _ (c .before .before .before .if1 .left), ne-eqb _ _ (c .before .before .if2 .left), ← c .before .is-change .ensures, c .if3 .taken)
 
 stays : tie.Need-returns-4
 unfolding toldBy

@@ -298,7 +298,7 @@ module _ {M : Type 1} (𝓤 : URA M) (H : Heap 𝓤) (A : Atoms 𝓤) (W : Given
         -- [the array; the result; true; log's token; what log owns; the row; the open borrow; obs; auth; _4 dies; _13 10; _12 12; _11 14; _10 16; _9 18; _8 20; _7 22; _6 24; _5 26; _3 28; …]
         assigns ! (bin ! (load ! (from ! (stop !)) (look ! 22 refl)) (lit ! tt) (record { fits = scaled less })) (from ! (stop !)) (init ! 12 refl (tt, record { fits = scaled less })) $
         assigns ! (bin ! (load ! (from ! (fld ! refl (stop !))) (look-in ! 28 (sub ! 0 refl (whole !)))) (load ! (from ! (stop !)) (look ! 12 refl)) tt) (from ! (stop !)) (init ! 10 refl (tt, tt)) $
-        rewrite ! 10 (λ (z : ℕ). ‵ (fat fullShare tyPtr l₁₃ 0 (vptr b z))) (sym (place-is 32 o (i .index))) refl $
+        rewrite ! 10 (λ (z : ℕ). ‵ (fat fullShare tyPtr l₁₃ 0 (vptr b z))) (sym (place-is 48 o (i .index))) refl $
         move ! (5 ∷ []) $ elem-out ! T.the-row (Is T.the-row) (shows 𝓤 H A T.the-row) (LL.vals T.the-type T′.the-laws) (LL.tells T.the-type T′.the-laws) fullShare (zs (i .index)) (i .index) r b o (within less) (λ _.
         -- [table[i]; what it owned; the others; the array; the result; true; log's token; what log owns; the open borrow; obs; auth; _4 dies; _13 12; _12 14; _11 16; _10 18; _9 20; …]
         assigns ! (of-opd ! (load ! (from ! (stop !)) (look ! 20 refl))) (from ! (hop ! (look ! 12 refl) (stop !))) (store-raw ! 0 refl (LL.lawful T.the-type T′.the-laws 𝓤 H A W .typed r _ is .0)) $
@@ -332,7 +332,7 @@ module _ {M : Type 1} (𝓤 : URA M) (H : Heap 𝓤) (A : Atoms 𝓤) (W : Given
         within : Holds (ltb (i .index) (due ans)) → i .index < length (zs (i .index))
         within less = subst (λ (m : ℕ). i .index < m) (sym (long-rows i)) (free less)
 
-        scaled : Holds (ltb (i .index) (due ans)) → i .index * 32 < 2 ^ 64
+        scaled : Holds (ltb (i .index) (due ans)) → i .index * 48 < 2 ^ 64
         scaled less = omega (arith, free less, room .1)
 
         one-fits : Holds (ltb (i .index) (due ans)) → i .index + 1 < 2 ^ 64
