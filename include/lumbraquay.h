@@ -1,5 +1,5 @@
-/* Lumbraquay's C interface: crash recovery of heap pages by their write-ahead log, the table rows of their catalog, and
- * orders by their request marks.
+/* Lumbraquay's C interface: crash recovery of heap pages by their write-ahead log, judging pages that another program
+ * repaired, the table rows of their catalog, and orders by their request marks.
  *
  * Every function is total: for any bytes, lengths and numbers it ends and gives the answer that is written here.
  * None allocates, does input or output, keeps a pointer or has state of its own, so calls on different buffers may run
@@ -85,7 +85,8 @@ uint32_t lq_version(void);
     X(35, LQ_TABLE_ROW_FORM, "a catalog payload has 2 to 8 or more than 9 bytes after its names") \
     X(36, LQ_TABLE_ROW_LAYOUT, "a layout of a table other than 0 (heap) and 1 (clustered)") \
     X(37, LQ_TABLE_ROW_NO_ROOM, "a name of a table has over 255 bytes, or the lent area is too short for its row") \
-    X(38, LQ_TABLE_ROW_NEWER, "a catalog payload has the newest form, which an older reader does not know")
+    X(38, LQ_TABLE_ROW_NEWER, "a catalog payload has the newest form, which an older reader does not know") \
+    X(39, LQ_PAGE_AREAS_DIFFER, "the page areas before and after a repair differ in length")
 
 enum lq_refusal {
 #define LQ_REFUSAL_CONSTANT(number, name, meaning) name = number,
@@ -239,6 +240,29 @@ enum lq_read_row_answer {
 
 /* Where a row's payload stands. */
 enum lq_source { LQ_FROM_NOWHERE = 0, LQ_FROM_LOG = 1, LQ_FROM_PAGES = 2 };
+
+/* Whether the pages after a repair hold what lq_recover would leave of the pages before: an untouched page the same
+ * bytes; a touched one the same magic, type, id and reserved bytes and the same tuple in every slot, a slot past the item
+ * count being empty. Packing, flags, LSN and item count of a touched page may differ. Refuses as lq_recover does but for
+ * 10, then 39, then as lq_verify does of the pages after, but for 1. Nothing is written but out. */
+void lq_judge(uint64_t magic, uint64_t floor, const uint8_t *before, size_t before_len, const uint8_t *log,
+              size_t log_len, const uint8_t *after, size_t after_len, uint64_t *out, size_t out_len);
+
+/* Yes is all 0. A no has the lowest page that differs and its lowest slot that does. */
+enum lq_judge_answer {
+    LQ_JUDGE_NUMBER = 0,
+    LQ_JUDGE_PLACE = 1,
+    LQ_JUDGE_DIFFERS = 2, /* 1 or 0 */
+    LQ_JUDGE_PAGE = 3,
+    LQ_JUDGE_SLOT = 4 /* 0 for an untouched page or a difference in the header */
+};
+#define LQ_JUDGE_NUMBERS 5
+
+/* The same of the pages from an index on: to find every page that differs, call again from the one behind it. Refused as
+ * lq_judge is, whatever the index: each call looks at all that is lent. */
+void lq_judge_from(uint64_t magic, uint64_t floor, const uint8_t *before, size_t before_len, const uint8_t *log,
+                   size_t log_len, const uint8_t *after, size_t after_len, uint64_t first, uint64_t *out,
+                   size_t out_len);
 
 /* The first visible row at or after a slot of a page: one with deleted byte 0 and xmax 0, on a page of type 1. Refuses
  * as lq_verify does: each call checks every page. */

@@ -28,6 +28,7 @@ use Rattle.intake.specs.declared.Order.{Order}
 use Rattle.intake.specs.declared.FoundOrder.{FoundOrder}
 use Rattle.intake.specs.declared.RepeatedOrders.{RepeatedOrders}
 use Rattle.rules.specs.Lent.{Lent}
+use Rattle.audit.specs.declared.Finding.{Finding}
 use Rattle.summary.specs.declared.Summary.{Summary}
 use Rattle.summary.specs.declared.NumberedRow.{NumberedRow}
 use Rattle.summary.specs.declared.SummaryStep.{SummaryStep}
@@ -166,6 +167,12 @@ locatedNumbers l =
 
 unfoldable pub readRowNumbers : Lent → ℕ → ℕ → List ℕ
 readRowNumbers x page slot = locatedNumbers (locatedOf x page slot)
+
+-- ---- repaired pages
+
+-- lq_judge, lq_judge_from: number, place, whether a page differs, its number, its slot
+abbrev pub findingNumbers : Finding → List ℕ
+findingNumbers f = f .verdict .number ∷ f .verdict .place ∷ one (f .differs) ∷ f .page .0 ∷ f .slot ∷ []
 
 -- ---- the row summary
 

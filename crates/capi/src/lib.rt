@@ -15,8 +15,10 @@ ghost use Rattle.catalog.specs.TableRows.{rowOf, olderRowOf, writeAnswer, areaA
 ghost use Rattle.catalog.specs.Search.{tableFound};
 ghost use Rattle.summary.specs.Summary.{numberedRow, stepOf, summaryOf, summaryWritten, summaryAfter};
 ghost use Rattle.intake.specs.Orders.{markOf, orderFound, ordersRepeated};
-ghost use Rattle.capi.specs.Answers.{version, given, openNumbers, stepNumbers, kindForward, kindBackward, forwardNumbers, backwardNumbers, verifyNumbers, verifyFromNumbers, rowNumbers, nextVisibleNumbers, listNumbers, freeMapNumbers, contentsNumbers, restoredNumbers, tableNumbers, writtenNumbers, answerNumbers, locatedNumbers, readRowNumbers, summaryNumbers, numberedNumbers, summaryStepNumbers, foundNumbers, repeatedNumbers};
+ghost use Rattle.capi.specs.Answers.{version, given, openNumbers, stepNumbers, kindForward, kindBackward, forwardNumbers, backwardNumbers, verifyNumbers, verifyFromNumbers, rowNumbers, nextVisibleNumbers, listNumbers, freeMapNumbers, contentsNumbers, restoredNumbers, tableNumbers, writtenNumbers, answerNumbers, locatedNumbers, readRowNumbers, summaryNumbers, numberedNumbers, summaryStepNumbers, foundNumbers, repeatedNumbers, findingNumbers};
 ghost use Rattle.recovery.specs.Flat.{recoverFlat};
+ghost use Rattle.audit.specs.Judge.{judgeFrom, judgeOf};
+use audit::Finding;
 use catalog::TableRow;
 use endian::Lsn;
 use endian::PageNumber;
@@ -481,6 +483,48 @@ pub extern "C" fn lq_recover(
 {
     let a = recovery::recover_flat(magic, Lsn(floor), pages, log, table);
     give(&answer_numbers(a), out);
+}
+
+// The numbers of a judgement.
+fn finding_numbers(f: Finding) -> [u64; 5]
+    ensures { λ r. ⌜ r ≡ findingNumbers f ⌝ }
+{
+    let v = f.verdict;
+    let page = f.page;
+    [v.number, v.place, f.differs as u64, page.0, f.slot as u64]
+}
+
+// Whether the pages after hold what recovery of the pages before would leave, and else the lowest page and slot that differs.
+#[no_mangle]
+pub extern "C" fn lq_judge(
+    magic: u64,
+    floor: u64,
+    before: &[u8],
+    log: &[u8],
+    after: &[u8],
+    out: &mut [u64],
+)
+    ensures { λ _. ⌜ now (out .exit) ≡ given (findingNumbers (judgeOf (lent magic floor (now (before .entry)) (now (log .entry))) (now (after .entry)))) (now (out .entry)) ⌝ }
+{
+    let f = audit::judge(magic, Lsn(floor), before, log, after);
+    give(&finding_numbers(f), out);
+}
+
+// The same of the pages from an index on.
+#[no_mangle]
+pub extern "C" fn lq_judge_from(
+    magic: u64,
+    floor: u64,
+    before: &[u8],
+    log: &[u8],
+    after: &[u8],
+    first: u64,
+    out: &mut [u64],
+)
+    ensures { λ _. ⌜ now (out .exit) ≡ given (findingNumbers (judgeFrom (lent magic floor (now (before .entry)) (now (log .entry))) (now (after .entry)) first)) (now (out .entry)) ⌝ }
+{
+    let f = audit::judge_from(magic, Lsn(floor), before, log, after, PageNumber(first));
+    give(&finding_numbers(f), out);
 }
 
 // The numbers of a row that is located.

@@ -29,7 +29,7 @@ not-false false h = sym h
 -- ---- equal bytes
 
 -- a list of bytes is told by its number and its length
-number-tells : (l m : List ℕ) → Bytes l → Bytes m → length l ≡ length m → numberOf l ≡ numberOf m → l ≡ m
+pub number-tells : (l m : List ℕ) → Bytes l → Bytes m → length l ≡ length m → numberOf l ≡ numberOf m → l ≡ m
 unfolding numberOf
 number-tells [] [] h k e q = refl
 number-tells [] (y ∷ m) h k e q = absurd (omega arith)
@@ -41,12 +41,12 @@ number-tells (x ∷ l) (y ∷ m) h k e q =
     let rest : numberOf l ≡ numberOf m = omega arith in
     ap₂ (λ (z : ℕ) (n : List ℕ). z ∷ n) front (number-tells l m (bytes-drop 1 h) (bytes-drop 1 k) (omega arith) rest)
 
-same-refl : (l : List ℕ) → same l l ≡ true
+pub same-refl : (l : List ℕ) → same l l ≡ true
 unfolding same
 same-refl [] = refl
 same-refl (x ∷ l) = rw (eq-eqb x x refl, same-refl l)
 
-same-true : (l m : List ℕ) → same l m ≡ true → l ≡ m
+pub same-true : (l m : List ℕ) → same l m ≡ true → l ≡ m
 unfolding same
 same-true [] [] h = refl
 same-true [] (y ∷ m) h = false-true h
@@ -55,7 +55,7 @@ same-true (x ∷ l) (y ∷ m) h =
     let a = both-true (eqb x y) (same l m) h in
     ap₂ (λ (z : ℕ) (n : List ℕ). z ∷ n) (eqb-true x y (a .0)) (same-true l m (a .1))
 
-same-false : (l m : List ℕ) → (l ≡ m → ⊥) → same l m ≡ false
+pub same-false : (l m : List ℕ) → (l ≡ m → ⊥) → same l m ≡ false
 same-false l m n = go (same l m) refl
   where
     go : (b : Bool) → same l m ≡ b → b ≡ false

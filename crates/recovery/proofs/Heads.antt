@@ -38,11 +38,11 @@ module _ (x : ℕ) (t : List ℕ) (long : 24 ≤ length t) where
   front : length (take 8 t) ≡ 8
   front = length-take-le 8 t (omega arith)
 
-  stamped-xmin : xminOf (stamped x t) ≡ xminOf t
+  pub stamped-xmin : xminOf (stamped x t) ≡ xminOf t
   unfolding stamped
   stamped-xmin = number-append 8 0 (take 8 t) (bytesOf 8 x ++ (1 ∷ drop 17 t)) (omega (arith, front)) ∙ number-take 8 0 8 t (omega arith)
 
-  stamped-xmax : x < 2 ^ 64 → xmaxOf (stamped x t) ≡ x
+  pub stamped-xmax : x < 2 ^ 64 → xmaxOf (stamped x t) ≡ x
   unfolding stamped
   stamped-xmax small =
       let e : drop 8 (stamped x t) ≡ bytesOf 8 x ++ (1 ∷ drop 17 t) = drop-at (take 8 t) (bytesOf 8 x ++ (1 ∷ drop 17 t)) 8 front in

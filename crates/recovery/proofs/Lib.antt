@@ -8,3 +8,4 @@ pub mod RowLaws
 pub mod RowRecovered
 pub mod Whole
 pub mod Times
+pub mod Readiness

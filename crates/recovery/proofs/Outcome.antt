@@ -54,6 +54,9 @@ module _ {full : ℕ → Bool} {magic floor : ℕ} {pages log starts lasts : Lis
   pub verdict-zero : w .number ≡ 0 → recoverVerdict full (lent magic floor pages log) .number ≡ 0
   verdict-zero z = sym (ap (λ (v : Verdict). v .number) (j .verdict)) ∙ rw (eq-eqb (w .number) 0 z)
 
+  pub verdict-done : w .number ≡ 0 → recoverVerdict full (lent magic floor pages log) ≡ accepted
+  verdict-done z = sym (j .verdict) ∙ rw (eq-eqb (w .number) 0 z)
+
   module _ (table : List Record) where
     pub run-refused : (w .number ≡ 0 → ⊥) → (refused (verdict (w .number) (w .place)) ≡ recoverBy (recoverVerdict full (lent magic floor pages log)) pages log table .answer)
         × (pages ≡ recoverBy (recoverVerdict full (lent magic floor pages log)) pages log table .pages)

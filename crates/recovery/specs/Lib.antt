@@ -1,3 +1,4 @@
 pub mod Flat
 pub mod Judgement
 pub mod Spot
+pub mod Ready

@@ -25,6 +25,7 @@ use table::inner::records::fill;
 use tally::Tally;
 
 mod core;
+pub mod inner;
 mod judge;
 mod row;
 

@@ -144,3 +144,7 @@ tableRowNoRoom = 37
 -- newest form of a catalog payload, for an older reader
 abbrev pub tableRowNewer : ℕ
 tableRowNewer = 38
+
+-- page areas before and after a repair that differ in length
+abbrev pub pageAreasDiffer : ℕ
+pageAreasDiffer = 39

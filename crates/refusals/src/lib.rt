@@ -71,6 +71,8 @@ pub const TABLE_ROW_NO_ROOM: u64 = 37;
 
 pub const TABLE_ROW_NEWER: u64 = 38;
 
+pub const PAGE_AREAS_DIFFER: u64 = 39;
+
 // A refusal's number and place; number 0 is none.
 pub struct Verdict {
     pub number: u64,

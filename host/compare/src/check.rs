@@ -4,7 +4,7 @@ use generate::{Case, Rng, DATA};
 use oracle::PAGE_BYTES;
 
 use crate::seen::Seen;
-use crate::{catalog, doublewrite, intake, log, pages, recovery, rows, summary};
+use crate::{audit, catalog, doublewrite, intake, log, pages, recovery, rows, summary};
 
 /// A case of more bytes, or of more pairs of slots that might share a byte, gets fewer calls.
 const LIGHT_BYTES: usize = 2_000_000;
@@ -41,6 +41,7 @@ pub fn check(case: &Case, seen: &mut Seen) {
     // Last, in the order in which they came, so that the calls above choose as they did before.
     summary::compare(&mut subject, seen);
     doublewrite::compare(&mut subject, seen);
+    audit::compare(&mut subject, seen);
 }
 
 /// The pairs of slots on each Data page, all together.

@@ -1,6 +1,7 @@
 //! The proved library beside the second program: every call of the C interface on the same input, every number and every
 //! lent byte compared. The tests run it over thousands of seeds, `lumbraquay replay` over one.
 
+mod audit;
 mod catalog;
 mod check;
 mod doublewrite;

@@ -167,6 +167,16 @@ pub fn repeated_orders(of: oracle::RepeatedOrders) -> library::RepeatedOrders {
     }
 }
 
+pub fn finding(of: oracle::Finding) -> library::Finding {
+    library::Finding {
+        number: of.number,
+        place: of.place,
+        differs: of.differs,
+        page: of.page,
+        slot: of.slot,
+    }
+}
+
 /// A step that found an entry, with the place it leads to.
 fn entry(next: u64, of: oracle::EntryFields) -> library::Step {
     library::Step {

@@ -1,6 +1,7 @@
 //! Seeded random inputs for programs that recover pages from a log: honest
 //! histories, mutations that aim at every refusal, and plain nonsense.
 
+mod audit;
 mod case;
 mod catalog;
 mod doublewrite;
@@ -21,6 +22,10 @@ mod style;
 mod summary;
 mod wild;
 
+pub use audit::{
+    bad_page, other_reserved, other_row, other_type, repacked, row_lost, row_twice, touched_pages,
+    untouched_byte, Spoiled,
+};
 pub use case::{case, mutated_by, Case, Earlier, Honest};
 pub use catalog::{catalog, catalog_id, table_payload, Catalog, CatalogRow, TableParts};
 pub use doublewrite::{doublewrite_file, file_kinds, page_list, torn, DoublewriteFile, Torn};

@@ -48,6 +48,33 @@ extern "C" {
         out_len: usize,
     );
 
+    pub fn lq_judge(
+        magic: u64,
+        floor: u64,
+        before: *const u8,
+        before_len: usize,
+        log: *const u8,
+        log_len: usize,
+        after: *const u8,
+        after_len: usize,
+        out: *mut u64,
+        out_len: usize,
+    );
+
+    pub fn lq_judge_from(
+        magic: u64,
+        floor: u64,
+        before: *const u8,
+        before_len: usize,
+        log: *const u8,
+        log_len: usize,
+        after: *const u8,
+        after_len: usize,
+        first: u64,
+        out: *mut u64,
+        out_len: usize,
+    );
+
     pub fn lq_read_row(
         magic: u64,
         floor: u64,

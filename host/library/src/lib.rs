@@ -185,6 +185,12 @@ numbers! {
 }
 
 numbers! {
+    /// Whether a page after a repair differs from what recovery leaves: the lowest such page and its lowest slot that
+    /// does; else 0.
+    Finding: 5 { number, place, differs, page, slot }
+}
+
+numbers! {
     /// What a step over the log finds. Where that is no entry, all after `next` are 0, and `next` is the place it
     /// started from.
     Step: 11 {
@@ -203,7 +209,7 @@ macro_rules! verdicts {
     };
 }
 
-verdicts! { Answer Row Visible Listing FreeMap Contents Repair Table Written Summary SummaryRow FoundOrder RepeatedOrders }
+verdicts! { Answer Row Visible Listing FreeMap Contents Repair Table Written Summary SummaryRow FoundOrder RepeatedOrders Finding }
 
 impl Row {
     /// The payload as a part of what was lent.
@@ -318,6 +324,51 @@ pub fn read_row(magic: u64, floor: u64, pages: &[u8], log: &[u8], page: u64, slo
             log.len(),
             page,
             slot,
+            out,
+            out_len,
+        )
+    })
+}
+
+/// Whether the pages after a repair hold what recovery of the pages before would leave. Refuses as recovery does but for
+/// 10, then 39, then as `verify` does of the pages after.
+pub fn judge(magic: u64, floor: u64, before: &[u8], log: &[u8], after: &[u8]) -> Finding {
+    filled(|out, out_len| unsafe {
+        c::lq_judge(
+            magic,
+            floor,
+            before.as_ptr(),
+            before.len(),
+            log.as_ptr(),
+            log.len(),
+            after.as_ptr(),
+            after.len(),
+            out,
+            out_len,
+        )
+    })
+}
+
+/// The same of the pages from an index on; refused as all of them are.
+pub fn judge_from(
+    magic: u64,
+    floor: u64,
+    before: &[u8],
+    log: &[u8],
+    after: &[u8],
+    first: u64,
+) -> Finding {
+    filled(|out, out_len| unsafe {
+        c::lq_judge_from(
+            magic,
+            floor,
+            before.as_ptr(),
+            before.len(),
+            log.as_ptr(),
+            log.len(),
+            after.as_ptr(),
+            after.len(),
+            first,
             out,
             out_len,
         )

@@ -79,6 +79,7 @@ refusals! {
     36 TABLE_ROW_LAYOUT Nothing "a layout of a table other than 0 (heap) and 1 (clustered)";
     37 TABLE_ROW_NO_ROOM Nothing "a name of a table has over 255 bytes, or the lent area is too short for its row";
     38 TABLE_ROW_NEWER Nothing "a catalog payload has the newest form, which an older reader does not know";
+    39 PAGE_AREAS_DIFFER Nothing "the page areas before and after a repair differ in length";
 }
 
 /// The refusal of a number, if there is one.

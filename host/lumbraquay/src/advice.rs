@@ -83,6 +83,9 @@ pub fn text(verdict: Verdict, read: Read) -> String {
         }
     };
     let mut text = format!("refused: {number} {name}{place}\n");
+    if let Some(side) = read.side {
+        text += &format!("  refused are {side}\n");
+    }
     text += &format!("  meaning:    {}\n", meaning(number));
     if let Some(found) = found(verdict, read) {
         text += &format!("  found:      {found}\n");
@@ -243,6 +246,7 @@ fn general(number: u64) -> &'static str {
         refusal::TABLE_ROW_ENDS_EARLY | refusal::TABLE_ROW_FORM | refusal::TABLE_ROW_LAYOUT => "see that these bytes are a row of the catalog's tables, whole",
         refusal::TABLE_ROW_NO_ROOM => "lend a longer area, or shorten the name",
         refusal::TABLE_ROW_NEWER => "use a reader that knows the newest form",
+        refusal::PAGE_AREAS_DIFFER => "see that BEFORE and AFTER are the same page file before and after the repair, both copied whole",
         _ => "use a version of this command that fits the library",
     }
 }

@@ -19,8 +19,8 @@ pub enum Failure {
     Refused(String),
     /// The two programs differ on a replayed case.
     Differs(String),
-    /// What was asked for is not there; the answer says so.
-    Absent,
+    /// The answer is no, and stands on standard output.
+    No,
     /// A signal asked for an end.
     Stopped(i32),
     /// What was asked for is done, but something after it went wrong.
@@ -35,7 +35,7 @@ impl Failure {
 
     pub fn status(&self) -> u8 {
         match self {
-            Failure::Differs(_) | Failure::Absent => 1,
+            Failure::Differs(_) | Failure::No => 1,
             Failure::Usage(_) | Failure::File(_) | Failure::Output(_) | Failure::Stopped(_) => 2,
             Failure::Refused(_) => 3,
             Failure::Done(_) => 4,
@@ -46,7 +46,7 @@ impl Failure {
     pub fn text(&self) -> String {
         match self {
             Failure::Output(error) if error.kind() == ErrorKind::BrokenPipe => String::new(),
-            Failure::Absent => String::new(),
+            Failure::No => String::new(),
             Failure::Output(error) => format!("cannot write to standard output: {error}"),
             Failure::Stopped(number) => format!("stopped by signal {number}; {}", done::so_far()),
             Failure::Usage(text)

@@ -48,6 +48,13 @@ impl Pages {
         Pages::of(parsed, path, files::read(path, PAGE_BYTES * PAGE_LIMIT)?)
     }
 
+    /// The same of pages that are judged by the magic of others.
+    pub fn read_like(parsed: &Parsed, index: usize, others: &Pages) -> Result<Pages, Failure> {
+        let path = parsed.path(index);
+        let whole = files::read(path, PAGE_BYTES * PAGE_LIMIT)?;
+        Pages::with_magic(path, whole, Some(others.magic))
+    }
+
     /// The same of a page file that is held to be replaced.
     pub fn read_held(parsed: &Parsed, held: &Held) -> Result<Pages, Failure> {
         Pages::of(parsed, parsed.path(0), held.read(PAGE_BYTES * PAGE_LIMIT)?)
@@ -349,6 +356,8 @@ pub struct Read<'a> {
     pub all_listed: bool,
     /// Whether the pages are those of --catalog.
     pub is_catalog: bool,
+    /// Which side of a repair is refused, where both are looked at.
+    pub side: Option<&'static str>,
 }
 
 impl<'a> Read<'a> {
@@ -435,6 +444,7 @@ impl Read<'_> {
         fields.extend(self.log.map_or(Vec::new(), Log::fields));
         fields.extend(self.doublewrite.map_or(Vec::new(), Doublewrite::fields));
         fields.extend(self.summary.map_or(Vec::new(), Summary::fields));
+        fields.extend(self.side.map(|side| ("refused_are", side.into())));
         fields
     }
 }

@@ -75,9 +75,9 @@ fn work() -> u8 {
     let mut output = Output::standard();
     let mut told = Told::of(&words);
     let done = run(&words, &mut output, &mut told);
-    // What was printed before a failure goes out before it is told.
+    // What was printed before a failure goes out before it is told. An answer that did not go out is none.
     let done = match output.flush() {
-        Err(failure) if done.is_ok() => Err(failure),
+        Err(failure) if matches!(done, Ok(()) | Err(Failure::No)) => Err(failure),
         _ => done,
     };
     let Err(failure) = done.map_err(Failure::after_changes) else {
@@ -278,5 +278,5 @@ fn overview() -> String {
         }
     }
     text + "\n`lumbraquay COMMAND --help` tells more. Exit status: 0 done, 3 refused (the answer says why), 2 wrong use \
-            or trouble\nwith a file, 4 done, but the report could not be written. 2 and 3 leave every file as it was. `order` ends with 1 where\nno order has the mark.\n"
+            or trouble\nwith a file, 4 done, but the report could not be written. 2 and 3 leave every file as it was. `order` ends with 1 where\nno order has the mark, `judge` where a page differs.\n"
 }

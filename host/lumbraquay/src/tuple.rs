@@ -35,6 +35,11 @@ impl<'a> Tuple<'a> {
         self.bytes[16] == 1
     }
 
+    /// The 7 pad bytes as one number.
+    pub fn pad(&self) -> u64 {
+        self.number(16) >> 8
+    }
+
     pub fn payload(&self) -> &'a [u8] {
         &self.bytes[HEADER_BYTES..]
     }

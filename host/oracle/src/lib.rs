@@ -1,6 +1,7 @@
 //! The rules for pages, log and recovery written out one by one, plainly and
 //! slowly, so that another program can be compared with this one.
 
+mod audit;
 mod bytes;
 mod catalog;
 mod crc;
@@ -15,6 +16,7 @@ mod recovery;
 mod row;
 mod summary;
 
+pub use audit::{judge, judge_from, Finding};
 pub use catalog::{table_find, table_read, table_read_older, table_write, Table};
 pub use crc::crc32c;
 pub use doublewrite::{

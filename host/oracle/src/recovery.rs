@@ -108,7 +108,7 @@ fn count(read: &ReadLog) -> Answer {
 
 /// The tuple of every slot of a touched page: the winning image of a touched
 /// slot; other slots keep their tuple.
-fn tuples(own: &[u8], touched: &Touched, log: &[u8]) -> Vec<Option<Vec<u8>>> {
+pub(crate) fn tuples(own: &[u8], touched: &Touched, log: &[u8]) -> Vec<Option<Vec<u8>>> {
     let kept =
         |slot: usize| tuple_in_slot(own, slot).map(|(at, length)| own[at..at + length].to_vec());
     (0..touched.item_count)

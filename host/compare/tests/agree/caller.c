@@ -64,6 +64,10 @@ int main(int count, char **words) {
     CALL(lq_recover, LQ_RECOVER_NUMBERS, 1, 0, NULL, 0, NULL, 0, NULL, 0)
     must(whole[LQ_RECOVER_NUMBER] == LQ_LOG_HEADER, "lq_recover", "no log is no header", MOST);
     CALL(lq_read_row, LQ_READ_ROW_NUMBERS, 1, 0, NULL, 0, NULL, 0, 0, 0)
+    CALL(lq_judge, LQ_JUDGE_NUMBERS, 1, 0, NULL, 0, NULL, 0, NULL, 0)
+    must(whole[LQ_JUDGE_NUMBER] == LQ_LOG_HEADER, "lq_judge", "no log is no header", MOST);
+    CALL(lq_judge_from, LQ_JUDGE_NUMBERS, 1, 0, NULL, 0, NULL, 0, NULL, 0, 0)
+    must(whole[LQ_JUDGE_NUMBER] == LQ_LOG_HEADER, "lq_judge_from", "no log is no header", MOST);
     CALL(lq_next_visible, LQ_NEXT_VISIBLE_NUMBERS, 1, NULL, 0, 0, 0)
     CALL(lq_list_visible, LQ_LIST_VISIBLE_NUMBERS, 1, NULL, 0, 0, 0, NULL, 0)
     CALL(lq_list_cancelled, LQ_LIST_VISIBLE_NUMBERS, 1, NULL, 0, 0, 0, NULL, 0)
@@ -149,6 +153,15 @@ int main(int count, char **words) {
          log_len, table, sizeof table / sizeof *table)
     must(whole[LQ_RECOVER_COMMITTED] == 2, "lq_recover", "two transactions committed", MOST);
     must(table[LQ_RECORD_OUTCOME] == LQ_COMMITTED, "lq_recover", "the first transaction committed", MOST);
+    CALL(lq_judge, LQ_JUDGE_NUMBERS, magic, 0, kept, pages_len, log_bytes, log_len, pages, pages_len)
+    must(whole[LQ_JUDGE_NUMBER] == LQ_DONE && whole[LQ_JUDGE_DIFFERS] == 0, "lq_judge", "our own pages are right", MOST);
+    CALL(lq_judge, LQ_JUDGE_NUMBERS, magic, 0, kept, pages_len, log_bytes, log_len, kept, pages_len)
+    must(whole[LQ_JUDGE_DIFFERS] == 1 && whole[LQ_JUDGE_PAGE] == 1, "lq_judge", "page 1 was not mended", MOST);
+    CALL(lq_judge, LQ_JUDGE_NUMBERS, magic, 0, kept, pages_len, log_bytes, log_len, kept, pages_len - LQ_PAGE_BYTES)
+    must(whole[LQ_JUDGE_NUMBER] == LQ_PAGE_AREAS_DIFFER, "lq_judge", "a page is missing", MOST);
+    CALL(lq_judge_from, LQ_JUDGE_NUMBERS, magic, 0, kept, pages_len, log_bytes, log_len, kept, pages_len,
+         pages_len / LQ_PAGE_BYTES)
+    must(whole[LQ_JUDGE_DIFFERS] == 0, "lq_judge_from", "nothing behind the last page", MOST);
     CALL(lq_list_cancelled, LQ_LIST_VISIBLE_NUMBERS, magic, pages, pages_len, 0, 0, rows, sizeof rows / sizeof *rows)
     must(whole[LQ_LIST_VISIBLE_COUNT] == 1 && rows[LQ_ROW_PAGE] == 1 && rows[LQ_ROW_SLOT] == 2, "lq_list_cancelled", "one row was deleted", MOST);
     CALL(lq_recover, LQ_RECOVER_NUMBERS, magic, 0, (uint8_t *)memcpy(pages, kept, sizeof kept), pages_len, log_bytes,

@@ -5,8 +5,8 @@ use std::collections::BTreeMap;
 
 use library::refusal::{DONE, REFUSALS};
 use library::{
-    Answer, Contents, FoundOrder, FreeMap, Listed, Listing, Record, Repair, RepeatedOrders, Row,
-    Step, Summary, SummaryRow, SummaryStep, Table, Verdict, Visible, Written,
+    Answer, Contents, Finding, FoundOrder, FreeMap, Listed, Listing, Record, Repair,
+    RepeatedOrders, Row, Step, Summary, SummaryRow, SummaryStep, Table, Verdict, Visible, Written,
 };
 
 const HEADER: &str = include_str!("../../../../include/lumbraquay.h");
@@ -90,6 +90,7 @@ fn names_and_numbers_are_the_same() {
         ("RECOVER", &Answer::NAMES),
         ("RECORD", &Record::NAMES),
         ("READ_ROW", &Row::NAMES),
+        ("JUDGE", &Finding::NAMES),
         ("NEXT_VISIBLE", &Visible::NAMES),
         ("LIST_VISIBLE", &Listing::NAMES),
         ("ROW", &Listed::NAMES),

@@ -14,9 +14,10 @@ use crate::{assert_no_differences, tell};
 const SEEDS: Range<u64> = 0..20_000;
 
 /// The calls that refuse pages which are not good.
-const OVER_PAGES: [&str; 12] = [
+const OVER_PAGES: [&str; 13] = [
     "recover",
     "read_row",
+    "judge",
     "verify",
     "verify_from",
     "next_visible",
@@ -291,6 +292,36 @@ fn orders_reach_every_bound() {
             ("mark on three orders", 500),
             ("mark on a cancelled and a visible row", 1_000),
             ("pair on two pages", 500),
+        ],
+    );
+}
+
+/// Our own pages in any layout are judged yes, and each thing that is wrong a no at its page and slot; 39 and the refusals
+/// of the pages after are reached.
+#[test]
+fn repaired_pages_are_judged() {
+    let seen = seen();
+    assert_no_differences(seen);
+    for number in [11, 17, 18, 19, 39] {
+        let times = seen.times("judge", number);
+        assert!(times > 200, "judge gave {number} {times} times");
+    }
+    assert!(seen.times("judge_from", 0) > 5_000);
+    assert_often(
+        seen,
+        &[
+            ("pages in another layout judged", 2_000),
+            ("untouched pages judged", 100),
+            ("byte of a row", 1_000),
+            ("row in a fresh slot", 1_000),
+            ("row lost", 1_000),
+            ("reserved byte", 1_000),
+            ("other type", 1_000),
+            ("byte of an untouched page", 500),
+            ("flags of an untouched page", 200),
+            ("LSN of an untouched page", 200),
+            ("several pages that differ, listed", 500),
+            ("page after refused", 500),
         ],
     );
 }

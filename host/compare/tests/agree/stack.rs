@@ -83,8 +83,13 @@ fn call_everything() {
     assert_eq!(library::summary_row(&summary, 300 * 80 - 1).page, 299);
     let row = library::read_row(MAGIC, 0, &pages, &log, 299, 900);
     assert_eq!(row.payload(&pages, &log), b"late");
+    let before = pages.clone();
     let answer = library::recover(MAGIC, 0, &mut pages, &log, &mut table);
     assert_eq!((answer.number, answer.pages_rewritten), (0, 300));
+    let own = library::judge(MAGIC, 0, &before, &log, &pages);
+    assert_eq!((own.number, own.differs), (0, 0));
+    let unmended = library::judge_from(MAGIC, 0, &before, &log, &before, 299);
+    assert_eq!((unmended.page, unmended.slot), (299, 900));
     let answer = library::recover(
         MAGIC,
         1_000,

@@ -1,5 +1,6 @@
 //! Thousands of random inputs, and what must hold of every one of them.
 
+mod audit;
 mod catalog;
 mod common;
 mod doublewrite;

@@ -3,6 +3,7 @@
 mod demo;
 mod doublewrite;
 mod freemap;
+mod judge;
 mod log;
 mod order;
 mod pages;
@@ -42,6 +43,7 @@ pub const ALL: &[Command] = &[
     table::COMMAND,
     order::COMMAND,
     repeats::COMMAND,
+    judge::COMMAND,
     freemap::COMMAND,
     doublewrite::COMMAND,
     summary::WRITE,

@@ -63,6 +63,6 @@ fn run(parsed: &Parsed, output: &mut Output) -> Result<(), Failure> {
     }
     match order {
         Some(_) => Ok(()),
-        None => Err(Failure::Absent),
+        None => Err(Failure::No),
     }
 }

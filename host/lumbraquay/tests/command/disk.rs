@@ -105,6 +105,7 @@ fn standard_output_that_is_full_or_closed() {
         "tables outage.pages",
         "table outage.pages 14",
         "repeats outage.pages",
+        "judge outage.pages outage.log outage.pages",
         "freemap outage.pages",
         "log outage.log",
         "log outage.log --json",

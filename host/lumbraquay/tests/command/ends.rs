@@ -40,6 +40,7 @@ fn every_end_has_a_result() {
         "pages outage.pages",
         "row outage.pages outage.log 1 1",
         "transactions outage.pages outage.log",
+        "judge outage.pages outage.log outage.pages.recovered",
         "report outage.pages outage.log",
         "replay 7",
         "replay 7 --count 3",

@@ -6,7 +6,7 @@ use std::os::unix::fs::PermissionsExt;
 use crate::sandbox::Sandbox;
 
 /// Every use of a page file, which is called P, and of a log file, called L.
-const OF_PAGES: [&str; 14] = [
+const OF_PAGES: [&str; 15] = [
     "verify P",
     "rows P",
     "tables P",
@@ -17,16 +17,18 @@ const OF_PAGES: [&str; 14] = [
     "freemap P",
     "row P outage.log 1 0",
     "transactions P outage.log",
+    "judge P outage.log outage.pages",
     "recover P outage.log",
     "recover P outage.log --out new",
     "recover P outage.log --dry-run",
     "recover P outage.log --in-place",
 ];
-const OF_LOG: [&str; 6] = [
+const OF_LOG: [&str; 7] = [
     "log L",
     "log L --backward",
     "row outage.pages L 1 0",
     "transactions outage.pages L",
+    "judge outage.pages L outage.pages",
     "recover outage.pages L",
     "recover outage.pages L --in-place",
 ];

@@ -9,6 +9,7 @@ mod ends;
 mod inputs;
 mod install;
 mod json;
+mod judge;
 mod kills;
 mod listing;
 mod log;

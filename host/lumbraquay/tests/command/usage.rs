@@ -2,7 +2,7 @@
 
 use crate::sandbox::Sandbox;
 
-pub const COMMANDS: [&str; 20] = [
+pub const COMMANDS: [&str; 21] = [
     "demo",
     "recover",
     "transactions",
@@ -16,6 +16,7 @@ pub const COMMANDS: [&str; 20] = [
     "table",
     "order",
     "repeats",
+    "judge",
     "freemap",
     "doublewrite",
     "summary write",

@@ -5,6 +5,7 @@ mod common;
 mod crc;
 mod doublewrite;
 mod entry_rules;
+mod judging;
 mod log_reader;
 mod order_and_size;
 mod orders;
