@@ -46,6 +46,10 @@ const RECOVER: &str = "recover outage.pages outage.log --in-place";
 /// The same under a floor above every page's LSN, so that no cut of the log is too short for the pages.
 const RECOVER_UNDER_FLOOR: &str = "recover outage.pages outage.log --in-place --floor 1000";
 
+/// What a run says while a process that another test starts still holds the file that this test wrote, between its fork and
+/// its exec.
+const STILL_OPEN: &str = "another process has it open for writing";
+
 fn start(sandbox: &Sandbox, words: &str) -> Child {
     Command::new(BINARY)
         .args(words.split_whitespace())
@@ -211,6 +215,10 @@ impl Scene {
                     // A log that is refused is refused soon.
                     continue;
                 }
+                Some(2) if done.err.contains(STILL_OPEN) => {
+                    assert!(left == lent, "{done:#?}");
+                    continue;
+                }
                 None => {
                     tally.killed += 1;
                     tally.replaced += u64::from(left != lent);
@@ -352,10 +360,15 @@ fn ten_kills_in_one_night() {
     let last = file(&log, log.len(), log.len() + 100);
     let recovered = || {
         sandbox.write("outage.log", &last);
-        let done = sandbox
-            .say(&format!("{RECOVER_UNDER_FLOOR} --json"))
-            .ends(0);
-        (answer(done), sandbox.read("outage.pages"))
+        let words = format!("{RECOVER_UNDER_FLOOR} --json");
+        let mut done = sandbox.say(&words);
+        for _ in 0..100 {
+            if !done.out.contains(STILL_OPEN) {
+                break;
+            }
+            done = sandbox.say(&words);
+        }
+        (answer(done.ends(0)), sandbox.read("outage.pages"))
     };
     reset(sandbox, &scene.old);
     let alone = recovered();
