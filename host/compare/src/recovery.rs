@@ -82,9 +82,52 @@ fn once(subject: &mut Subject, seen: &mut Seen, given: Given) -> Left {
             library::ENDED_TORN => "log that ends torn",
             _ => "log that ends unused",
         });
+        in_time(seen, &once);
         follows_ledger(case, seen, &once);
     }
     once
+}
+
+/// The records that a run wrote: one for each Begin.
+fn written(run: &Left) -> impl Iterator<Item = library::Record> + '_ {
+    let Answer {
+        committed,
+        rolled_back,
+        unended,
+        ..
+    } = run.answer;
+    library::records(&run.table).take((committed + rolled_back + unended) as usize)
+}
+
+/// The LSNs of each record rise: of its Begin, its last change and its ending, wherever they are not 0.
+fn in_time(seen: &mut Seen, once: &Left) {
+    for record in written(once) {
+        let lsns = [record.first_lsn, record.last_change_lsn, record.ending_lsn];
+        let lsns: Vec<u64> = lsns.into_iter().filter(|&lsn| lsn != 0).collect();
+        seen.must(lsns.is_sorted_by(|a, b| a < b), || {
+            format!("the LSNs of {record:?} do not rise")
+        });
+        let changed = record.changes > 0;
+        let ended = record.outcome != library::UNENDED;
+        seen.must((record.last_change_lsn != 0) == changed, || {
+            format!("{record:?}: last change and count")
+        });
+        seen.must((record.ending_lsn != 0) == ended, || {
+            format!("{record:?}: ending and outcome")
+        });
+        if ended && record.changes > 1 {
+            seen.event("record, ended, several changes");
+        }
+        if ended && !changed {
+            seen.event("record, ended, no change");
+        }
+        if !ended && changed {
+            seen.event("record, unended, changed");
+        }
+        if record.outcome == library::ROLLED_BACK && changed {
+            seen.event("record, rolled back, changed");
+        }
+    }
 }
 
 /// Runs both programs, compares all that they leave, and gives the library's.
@@ -353,16 +396,8 @@ fn any_order(subject: &mut Subject, seen: &mut Seen, given: Given, once: &Left) 
 
 /// A record that says committed stands in the table of the later run as it is.
 fn committed_stays(seen: &mut Seen, earlier: &Left, later: &Left) {
-    let Answer {
-        committed,
-        rolled_back,
-        unended,
-        ..
-    } = earlier.answer;
-    let begun = (committed + rolled_back + unended) as usize;
-    let pairs = library::records(&earlier.table).zip(library::records(&later.table));
-    for (record, after) in pairs.take(begun) {
-        if record.outcome == 1 {
+    for (record, after) in written(earlier).zip(library::records(&later.table)) {
+        if record.outcome == library::COMMITTED {
             seen.event("night, committed record kept");
             seen.must(record == after, || {
                 format!("{record:?} is reported as {after:?} later")

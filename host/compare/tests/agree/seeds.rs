@@ -165,6 +165,22 @@ fn honest_histories_end_as_their_ledgers_say() {
     );
 }
 
+/// Records of every kind tell when their transaction was final.
+#[test]
+fn records_tell_when_they_were_final() {
+    let seen = seen();
+    assert_no_differences(seen);
+    assert_often(
+        seen,
+        &[
+            ("record, ended, several changes", 1_500),
+            ("record, ended, no change", 3_000),
+            ("record, unended, changed", 2_500),
+            ("record, rolled back, changed", 700),
+        ],
+    );
+}
+
 /// Chains of up to ten runs, with stopped and refused ones and zeros among them, end as their last run alone.
 #[test]
 fn nights_end_as_their_last_run_alone() {

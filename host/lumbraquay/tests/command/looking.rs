@@ -463,11 +463,28 @@ fn slow_runs_say_so() {
     }
 }
 
+/// A transaction as the command lists it.
+fn record(told: &Value) -> Record {
+    Record {
+        number: told.number("transaction"),
+        first_lsn: told.number("first_lsn"),
+        outcome: match told.text("outcome") {
+            "committed" => library::COMMITTED,
+            "rolled back" => library::ROLLED_BACK,
+            "unended" => library::UNENDED,
+            other => panic!("outcome {other}"),
+        },
+        changes: told.number("changes"),
+        ending_lsn: told.number("ending_lsn"),
+        last_change_lsn: told.number("last_change_lsn"),
+    }
+}
+
 /// The list of transactions is the table of the second program, whole and by outcome.
 #[test]
 fn transactions_are_those_of_the_second_program() {
     let sandbox = Sandbox::new();
-    let (mut seen, mut final_ones) = (0, 0);
+    let (mut seen, mut final_ones) = ([0; 3], 0);
     for seed in 0..120 {
         let generate::Case {
             magic,
@@ -487,51 +504,38 @@ fn transactions_are_those_of_the_second_program() {
             continue;
         }
         let count = answer.committed + answer.rolled_back + answer.unended;
-        let expected: Vec<[u64; 5]> = table[..count as usize]
-            .iter()
-            .map(|it| {
-                [
-                    it.number,
-                    it.first_lsn,
-                    it.last_change_lsn,
-                    it.ending_lsn,
-                    it.changes,
-                ]
-            })
-            .collect();
+        let expected = &table[..count as usize];
         let words = format!("transactions pages log --json --magic {magic} --floor {floor}");
-        let told = |more: &str| -> Vec<[u64; 5]> {
+        let told = |more: &str| -> Vec<Record> {
             let told = sandbox.say(&format!("{words}{more}")).done().json();
-            let names = [
-                "transaction",
-                "first_lsn",
-                "last_change_lsn",
-                "ending_lsn",
-                "changes",
-            ];
-            let list = told.list("transactions");
-            list.iter()
-                .map(|it| names.map(|name| it.number(name)))
-                .collect()
+            told.list("transactions").iter().map(record).collect()
         };
         assert_eq!(told(""), expected, "seed {seed}");
-        let mut parts: Vec<[u64; 5]> = [
-            " --outcome committed",
-            " --outcome rolled-back",
-            " --outcome unended",
+        for (at, (outcome, name)) in [
+            (library::COMMITTED, "committed"),
+            (library::ROLLED_BACK, "rolled-back"),
+            (library::UNENDED, "unended"),
         ]
-        .iter()
-        .flat_map(|more| told(more))
-        .collect();
-        parts.sort_by_key(|it| it[1]);
-        assert_eq!(parts, expected, "seed {seed}");
-        seen += expected.len();
+        .into_iter()
+        .enumerate()
+        {
+            let of_it: Vec<Record> = expected
+                .iter()
+                .filter(|it| it.outcome == outcome)
+                .cloned()
+                .collect();
+            assert_eq!(told(&format!(" --outcome {name}")), of_it, "seed {seed}");
+            seen[at] += of_it.len();
+        }
         final_ones += expected
             .iter()
-            .filter(|it| it[2] != 0 && it[3] != 0)
+            .filter(|it| it.last_change_lsn != 0 && it.ending_lsn != 0)
             .count();
     }
-    assert!(seen > 50 && final_ones > 20, "{seen} {final_ones}");
+    assert!(
+        seen.iter().all(|&it| it > 10) && final_ones > 20,
+        "{seen:?} {final_ones}"
+    );
 }
 
 #[test]
