@@ -1,5 +1,5 @@
 //! Orders on 4,096 full pages: the search for a mark beside one verification, on distinct ones, on cancelled orders that all
-//! have it and on short payloads; and the search for repeated marks on distinct ones, on equal ones, on ones that share their
+//! have it, on short payloads and on all three at random; and the search for repeated marks on distinct ones, on equal ones, on ones that share their
 //! first 15 bytes, and on ones that are hard to tell apart.
 use bench::best;
 use generate::{live_tuple, DataPage, Slots};
@@ -101,12 +101,28 @@ fn finding() {
     absent("cancelled orders that have it", all, &cancelled, &mark);
     let empty = filled(EMPTY, |_| live_tuple(1, &[]));
     absent("rows without a payload", PAGES * EMPTY, &empty, &mark);
+    // A third of them is short, a third is cancelled, and the others are orders.
+    let any = filled(ORDERS, |n| match mixed(n) >> 32 {
+        kind if kind % 3 == 0 => live_tuple(1, &[7; 16]),
+        kind => {
+            let mut tuple = order(distinct(n));
+            tuple[16] = (kind % 3 - 1) as u8;
+            tuple
+        }
+    });
+    let name = "short, long and cancelled rows at random";
+    absent(name, all, &any, &mark);
 }
 
-fn repeated(name: &str, bound: f64, found: bool, mark: impl Fn(u64) -> Mark) {
+/// By the numbers of the pair that is to be found.
+fn repeated(name: &str, bound: f64, expected: Option<[u64; 2]>, mark: impl Fn(u64) -> Mark) {
     let pages = area(mark);
     let pair = library::repeated_orders(MAGIC, &pages);
-    assert_eq!((pair.number, pair.found), (0, u64::from(found)), "{name}");
+    let found = (pair.found == 1).then_some([
+        pair.page * ORDERS + pair.slot,
+        pair.later_page * ORDERS + pair.later_slot,
+    ]);
+    assert_eq!((pair.number, found), (0, expected), "{name}");
     let t = best(2, || {
         library::repeated_orders(MAGIC, black_box(&pages)).found
     });
@@ -120,27 +136,27 @@ fn repeated(name: &str, bound: f64, found: bool, mark: impl Fn(u64) -> Mark) {
 fn main() {
     finding();
     let all = PAGES * ORDERS;
-    repeated("distinct marks", DISTINCT_BOUND, false, distinct);
-    repeated("equal marks everywhere", ANY_BOUND, true, |_| [7; 16]);
+    repeated("distinct marks", DISTINCT_BOUND, None, distinct);
+    repeated("equal marks everywhere", ANY_BOUND, Some([0, 1]), |_| {
+        [7; 16]
+    });
     repeated(
         "marks that share their first 15 bytes",
         ANY_BOUND,
-        true,
+        Some([0, 256]),
         |n| halves(7, n << 56 | 7),
     );
     repeated(
         "rising numbers behind 8 equal bytes",
         ANY_BOUND,
-        false,
+        None,
         |n| halves(7, n.swap_bytes()),
     );
-    repeated(
-        "low numbers, the least bytes first",
-        ANY_BOUND,
-        false,
-        |n| halves(n, 0),
-    );
-    repeated("the last two orders alone", ANY_BOUND, true, |n| {
+    repeated("low numbers, the least bytes first", ANY_BOUND, None, |n| {
+        halves(n, 0)
+    });
+    let last_two = Some([all - 2, all - 1]);
+    repeated("the last two orders alone", ANY_BOUND, last_two, |n| {
         distinct(n.min(all - 2))
     });
 }

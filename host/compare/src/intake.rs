@@ -1,6 +1,6 @@
 //! Orders by their request marks: the search for one, and the least pair with the same.
 
-use std::collections::BTreeMap;
+use std::collections::{BTreeMap, BTreeSet};
 
 use generate::{mark, orders, Mark, OrderRow, Orders, Rng};
 use library::{FoundOrder, RepeatedOrders, MARK_BYTES, ORDER_BYTES, PAGE_BYTES};
@@ -85,7 +85,8 @@ fn search(rng: &mut Rng, own: &Orders, seen: &mut Seen) {
                 _ => "short payload counted",
             },
             (true, false, false) => "short payload behind the order counted",
-            (false, _, true) if is_marked => "cancelled row under the mark passed over",
+            (false, false, _) => "cancelled short payload not counted",
+            (false, true, true) if is_marked => "cancelled row under the mark passed over",
             (true, true, true) => "order of another mark passed over",
             (true, true, false) if is_marked && !is_found(row, &found) => {
                 "later order under the mark"
@@ -94,6 +95,11 @@ fn search(rng: &mut Rng, own: &Orders, seen: &mut Seen) {
         };
         seen.event(event);
     }
+    let short = |row: &&OrderRow| row.is_visible && !is_order(row);
+    let counted = own.rows.iter().filter(short).count() as u64;
+    seen.must(counted == found.short, || {
+        format!("{counted} visible payloads are short, but {found:?}")
+    });
     if found.found == 1 {
         let is_just = own
             .rows
@@ -139,4 +145,18 @@ fn repeats(own: &Orders, seen: &mut Seen) {
     if pair.found == 1 && pair.page != pair.later_page {
         seen.event("pair on two pages");
     }
+    if pair.found == 1 && is_ended_before(own, &pair) {
+        seen.event("another pair ends before the least one");
+    }
+}
+
+/// Whether two orders of another mark stand between the two of a pair, as in a b b a.
+fn is_ended_before(own: &Orders, pair: &RepeatedOrders) -> bool {
+    let mut between = BTreeSet::new();
+    let mut orders = own.rows.iter().filter(|row| {
+        let at = (row.page, u64::from(row.slot));
+        let is_between = (pair.page, pair.slot) < at && at < (pair.later_page, pair.later_slot);
+        is_between && row.is_visible && is_order(row)
+    });
+    orders.any(|row| !between.insert(&row.payload[..MARK_BYTES]))
 }

@@ -34,30 +34,27 @@ pub fn mark_of(text: &str) -> Option<Mark> {
 
 /// An order with its whole row.
 pub struct Order<'a> {
-    pub row: Row<'a>,
+    row: Row<'a>,
+    part: u64,
+    quantity: u64,
 }
 
 impl<'a> Order<'a> {
     /// The order in a row, if its payload is long enough.
-    pub fn of(row: Row<'a>) -> Option<Order<'a>> {
-        (row.tuple.payload().len() >= ORDER_BYTES).then_some(Order { row })
-    }
-
-    fn number(&self, at: usize) -> u64 {
-        let bytes = self.row.tuple.payload()[at..].first_chunk();
-        bytes.map_or(0, |bytes| u32::from_le_bytes(*bytes).into())
+    fn of(row: Row<'a>) -> Option<Order<'a>> {
+        let (_, behind) = row.tuple.payload().split_first_chunk::<MARK_BYTES>()?;
+        let (part, behind) = behind.split_first_chunk()?;
+        let quantity = behind.first_chunk()?;
+        let number = |bytes: &[u8; 4]| u32::from_le_bytes(*bytes).into();
+        Some(Order {
+            row,
+            part: number(part),
+            quantity: number(quantity),
+        })
     }
 
     pub fn mark(&self) -> &'a [u8] {
         &self.row.tuple.payload()[..MARK_BYTES]
-    }
-
-    pub fn part(&self) -> u64 {
-        self.number(MARK_BYTES)
-    }
-
-    pub fn quantity(&self) -> u64 {
-        self.number(MARK_BYTES + 4)
     }
 
     /// What the payload holds behind the order.
@@ -67,17 +64,20 @@ impl<'a> Order<'a> {
 
     /// Where it stands, what it asks for, and the rest of its row.
     pub fn words(&self) -> String {
+        let at = &self.row.at;
+        let asked = asked(at.page, at.slot, self.part, self.quantity);
+        format!("{asked}{}", self.row_words())
+    }
+
+    /// The rest of its row.
+    pub fn row_words(&self) -> String {
         let Row { at, tuple } = &self.row;
         let rest = match self.rest() {
             [] => String::new(),
             rest => format!(", then {}", show::payload(rest, usize::MAX)),
         };
         format!(
-            "page {} slot {}: part {}, quantity {}; xmin {}, payload of {} bytes at offset {} of the pages{rest}",
-            at.page,
-            at.slot,
-            self.part(),
-            self.quantity(),
+            "; xmin {}, payload of {} bytes at offset {} of the pages{rest}",
             tuple.xmin(),
             tuple.payload().len(),
             at.offset + at.length - tuple.payload().len() as u64
@@ -93,22 +93,33 @@ impl<'a> Order<'a> {
             ("offset", at.offset.into()),
             ("xmin", tuple.xmin().into()),
             ("mark", Json::Text(show::hex(self.mark()))),
-            ("part", self.part().into()),
-            ("quantity", self.quantity().into()),
+            ("part", self.part.into()),
+            ("quantity", self.quantity.into()),
             ("payload", Json::Text(show::hex(tuple.payload()))),
         ])
     }
 }
 
+/// Where an order stands, and what it asks for.
+pub fn asked(page: u64, slot: u64, part: u64, quantity: u64) -> String {
+    format!("page {page} slot {slot}: part {part}, quantity {quantity}")
+}
+
 /// The visible orders of pages that are all good, in order.
-pub fn orders(pages: &Pages) -> impl Iterator<Item = Order<'_>> {
+fn orders(pages: &Pages) -> impl Iterator<Item = Order<'_>> {
     rows(pages, library::list_visible, None).filter_map(Order::of)
 }
 
-/// The visible order in a slot, where there is one.
-pub fn order_in(pages: &Pages, page: u64, slot: u64) -> Option<Order<'_>> {
+/// An order that the library found, by its page, slot, part number and quantity, with its row.
+pub fn found_order(pages: &Pages, [page, slot, part, quantity]: [u64; 4]) -> Option<Order<'_>> {
     let mut of_page = rows(pages, library::list_visible, Some(page));
-    of_page.find(|row| row.at.slot == slot).and_then(Order::of)
+    let row = of_page.find(|row| row.at.slot == slot)?;
+    let order = Order::of(row)?;
+    Some(Order {
+        part,
+        quantity,
+        ..order
+    })
 }
 
 /// The orders of each mark that stands more than once, by their first.

@@ -6,6 +6,7 @@ mod cuts;
 mod header;
 mod limits;
 mod maps;
+mod orders;
 mod seeds;
 mod stack;
 mod summaries;

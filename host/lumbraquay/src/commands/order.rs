@@ -4,7 +4,7 @@ use crate::advice::unless_refused;
 use crate::args::{Command, Parsed, JSON, MAGIC};
 use crate::failure::Failure;
 use crate::input::{head_fields, Pages, Read};
-use crate::intake::{mark_of, order_in};
+use crate::intake::{asked, found_order, mark_of, Order};
 use crate::json::Json;
 use crate::output::Output;
 use crate::show;
@@ -14,7 +14,7 @@ pub const COMMAND: Command = Command {
     about: "says whether an order with a request mark is there",
     takes: &[
         super::PAGES,
-        ("MARK", "the request mark: 32 hexadecimal digits, or a UUID"),
+        ("MARK", "the request mark: 32 hexadecimal digits, or a UUID, its bytes as written"),
     ],
     options: &[MAGIC, JSON],
     more: "The first visible row counts whose payload has 24 bytes or more and begins with this mark; shorter ones are counted. Rows come\n\
@@ -33,36 +33,41 @@ fn run(parsed: &Parsed, output: &mut Output) -> Result<(), Failure> {
     let found = library::find_order(pages.magic, &pages.bytes, &mark);
     unless_refused(parsed, output, found.verdict(), Read::pages(&pages))?;
 
-    let order = match found.found {
-        1 => order_in(&pages, found.page, found.slot),
-        _ => None,
+    let is_found = found.found == 1;
+    let numbers @ [page, slot, part, quantity] =
+        [found.page, found.slot, found.part, found.quantity];
+    // With the rest of its row, which the library does not give.
+    let order = match is_found {
+        true => found_order(&pages, numbers),
+        false => None,
     };
     if parsed.flag("--json") {
         let mut fields = head_fields(parsed, "done", found.verdict());
         fields.extend(pages.fields());
         fields.extend([
             ("asked", Json::Text(show::hex(&mark))),
-            ("found", (found.found == 1).into()),
-            (
-                "order",
-                order.as_ref().map_or(Json::Null, |order| order.fields()),
-            ),
+            ("found", is_found.into()),
+            ("order", order.as_ref().map_or(Json::Null, Order::fields)),
             ("short_payloads", found.short.into()),
         ]);
         output.line(Json::Object(fields))?;
     } else {
         output.line(pages.line())?;
-        output.line(match &order {
-            Some(order) => format!("mark {}: {}", show::hex(&mark), order.words()),
-            None => format!("mark {}: no visible order has it", show::hex(&mark)),
-        })?;
+        let words = match is_found {
+            true => {
+                let row = order.as_ref().map_or(String::new(), Order::row_words);
+                format!("{}{row}", asked(page, slot, part, quantity))
+            }
+            false => "no visible order has it".to_string(),
+        };
+        output.line(format_args!("mark {}: {words}", show::hex(&mark)))?;
         output.line(format_args!(
             "{} under 24 bytes passed over",
             show::count(found.short, "visible payload", "visible payloads")
         ))?;
     }
-    match order {
-        Some(_) => Ok(()),
-        None => Err(Failure::No),
+    match is_found {
+        true => Ok(()),
+        false => Err(Failure::No),
     }
 }

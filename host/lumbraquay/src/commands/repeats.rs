@@ -4,7 +4,7 @@ use crate::advice::unless_refused;
 use crate::args::{Choice, Command, Parsed, JSON, MAGIC};
 use crate::failure::Failure;
 use crate::input::{head_fields, Pages, Read};
-use crate::intake::{order_in, repeating, Order};
+use crate::intake::{found_order, repeating, Order};
 use crate::json::Json;
 use crate::output::Output;
 use crate::show;
@@ -19,7 +19,8 @@ pub const COMMAND: Command = Command {
         JSON,
     ],
     more: "The pair that is shown is the first order that has its mark again behind it, and the first behind it that has. An order is a\n\
-           visible row whose payload has 24 bytes or more. Rows come as they stand in the file: recover it first.",
+           visible row whose payload has 24 bytes or more. Rows come as they stand in the file: recover it first. The exit status is 0\n\
+           whatever is found, 3 refused.",
     run,
 };
 
@@ -28,20 +29,33 @@ fn run(parsed: &Parsed, output: &mut Output) -> Result<(), Failure> {
     let pair = library::repeated_orders(pages.magic, &pages.bytes);
     unless_refused(parsed, output, pair.verdict(), Read::pages(&pages))?;
 
-    let first = [(pair.page, pair.slot), (pair.later_page, pair.later_slot)];
-    let pair: Vec<Order> = match pair.found {
-        1 => first
+    let is_found = pair.found == 1;
+    let both = [
+        [pair.page, pair.slot, pair.part, pair.quantity],
+        [
+            pair.later_page,
+            pair.later_slot,
+            pair.later_part,
+            pair.later_quantity,
+        ],
+    ];
+    let pair: Vec<Order> = match is_found {
+        true => both
             .into_iter()
-            .filter_map(|(page, slot)| order_in(&pages, page, slot))
+            .filter_map(|numbers| found_order(&pages, numbers))
             .collect(),
-        _ => Vec::new(),
+        false => Vec::new(),
     };
-    let all = parsed.flag("--all").then(|| repeating(&pages));
+    // Where there is no pair, no mark stands more than once.
+    let all = parsed.flag("--all").then(|| match is_found {
+        true => repeating(&pages),
+        false => Vec::new(),
+    });
     if parsed.flag("--json") {
         let verdict = library::Verdict::default();
         let mut fields = head_fields(parsed, "done", verdict);
         fields.extend(pages.fields());
-        fields.push(("found", (!pair.is_empty()).into()));
+        fields.push(("found", is_found.into()));
         fields.push(("pair", Json::List(pair.iter().map(Order::fields).collect())));
         if let Some(all) = &all {
             let marks = all.iter().map(|orders| mark_fields(orders)).collect();
