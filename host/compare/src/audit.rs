@@ -1,8 +1,8 @@
-//! Repaired pages: our own in any layout are judged yes; one thing wrong is a no at its page and slot.
+//! Repaired pages: our own in any layout are judged yes; what is wrong is a no at its page and slot.
 
 use generate::{
-    bad_page, other_reserved, other_row, other_type, repacked, row_lost, row_twice, touched_pages,
-    untouched_byte, Rng, Spoiled,
+    bad_page, other_reserved, other_row, other_type, repacked, row_and_reserved, row_lost,
+    row_twice, touched_pages, two_rows, untouched_byte, Rng, Spoiled,
 };
 use library::{Finding, PAGE_BYTES, RECORD_NUMBERS};
 
@@ -55,6 +55,8 @@ pub(crate) fn compare(subject: &mut Subject, seen: &mut Seen) {
 
     let spoils = [
         other_row,
+        two_rows,
+        row_and_reserved,
         row_twice,
         row_lost,
         other_reserved,
@@ -75,11 +77,29 @@ pub(crate) fn compare(subject: &mut Subject, seen: &mut Seen) {
     longer.extend(rng.bytes(more));
     judge.all(&longer, seen);
     if let Some(bad) = bad_page(rng, &after) {
-        let found = judge.all(&bad, seen);
-        seen.must(matches!(found.number, 11 | 17..=19), || {
-            format!("a bad page after is judged {found:?}")
+        refuses(rng, &judge, bad, seen);
+    }
+}
+
+/// A page after is bad: it is refused, also where a page below it differs.
+fn refuses(rng: &mut Rng, judge: &Judge, mut bad: Vec<u8>, seen: &mut Seen) {
+    let found = judge.all(&bad, seen);
+    let (page, event) = match found.number {
+        11 => (found.place, "11 of the pages after"),
+        17 => (found.place, "17 of the pages after"),
+        18 => (found.place, "18 of the pages after"),
+        19 => (found.place / PAGE_BYTES as u64, "19 of the pages after"),
+        _ => return seen.differs(format_args!("a bad page after is judged {found:?}")),
+    };
+    seen.event(event);
+    if page > 0 {
+        let below = rng.index(page as usize);
+        bad[below * PAGE_BYTES + rng.size(36, 63)] ^= 1 << rng.below(8);
+        let both = judge.all(&bad, seen);
+        seen.must(both == found, || {
+            format!("page {below} differs too, and {both:?} is told, not {found:?}")
         });
-        seen.event("page after refused");
+        seen.event("page that differs below a refused one");
     }
 }
 
@@ -112,7 +132,8 @@ impl Judge<'_> {
     }
 }
 
-/// One thing wrong: a no that names it, from any page up to it; yes from the page behind it on.
+/// One page wrong: a no that names it, from any page up to it; yes from the page behind it on, and from far behind the
+/// last, also where the offset of the first page would not fit 64 bits.
 fn names(rng: &mut Rng, judge: &Judge, spoiled: &Spoiled, seen: &mut Seen) {
     let Spoiled {
         kind,
@@ -139,6 +160,12 @@ fn names(rng: &mut Rng, judge: &Judge, spoiled: &Spoiled, seen: &mut Seen) {
     seen.must(behind == Finding::default(), || {
         format!("{kind} is judged {behind:?} from the page behind it")
     });
+    let first = *rng.pick(&[1 << 32 | *page, 1 << 50 | *page, u64::MAX]);
+    let far = judge.from(pages, first, seen);
+    seen.must(far == Finding::default(), || {
+        format!("{kind} is judged {far:?} from page {first}")
+    });
+    seen.event("judged from a page far behind the last");
 }
 
 /// Several pages with reserved bytes or flags changed: going on behind each finds them all.

@@ -1,4 +1,4 @@
-//! Repaired pages: ours, laid out otherwise, and ours with one thing wrong.
+//! Repaired pages: ours, laid out otherwise, and ours with one or two things wrong.
 
 use std::collections::BTreeSet;
 
@@ -55,7 +55,7 @@ pub fn repacked(rng: &mut Rng, ours: &[u8], touched: &BTreeSet<u64>) -> Vec<u8> 
     pages
 }
 
-/// Pages after a repair with one thing wrong, and where that stands: its page and its lowest slot that differs.
+/// Pages after a repair with one page wrong, and its lowest slot that differs.
 #[derive(Clone, Debug)]
 pub struct Spoiled {
     pub kind: &'static str,
@@ -72,14 +72,42 @@ pub fn other_row(rng: &mut Rng, after: &[u8], touched: &BTreeSet<u64>) -> Option
             return None;
         }
         let slot = *rng.pick(&rows);
-        let row = slots.get_mut(&slot)?;
-        let at = rng.index(row.len());
-        match at {
-            // A deleted byte is 0 or 1.
-            16 => row[at] ^= 1,
-            _ => row[at] ^= 1 << rng.below(8),
-        }
+        other_byte(rng, slots.get_mut(&slot)?);
         Some(slot)
+    })
+}
+
+fn other_byte(rng: &mut Rng, row: &mut [u8]) {
+    let at = rng.index(row.len());
+    match at {
+        // A deleted byte is 0 or 1.
+        16 => row[at] ^= 1,
+        _ => row[at] ^= 1 << rng.below(8),
+    }
+}
+
+/// One byte of each of two rows on a touched page is another: the lower slot is named.
+pub fn two_rows(rng: &mut Rng, after: &[u8], touched: &BTreeSet<u64>) -> Option<Spoiled> {
+    with_rows(rng, after, touched, "bytes of two rows", |rng, slots| {
+        let mut rows: Vec<u16> = slots.keys().copied().collect();
+        rng.shuffle(&mut rows);
+        let [one, other, ..] = rows[..] else {
+            return None;
+        };
+        other_byte(rng, slots.get_mut(&one)?);
+        other_byte(rng, slots.get_mut(&other)?);
+        Some(one.min(other))
+    })
+}
+
+/// A byte of a row and a reserved byte of its page are others: slot 0 is named, for the header.
+pub fn row_and_reserved(rng: &mut Rng, after: &[u8], touched: &BTreeSet<u64>) -> Option<Spoiled> {
+    let mut spoiled = other_row(rng, after, touched)?;
+    page_mut(&mut spoiled.pages, spoiled.page)[rng.size(36, 63)] ^= 1 << rng.below(8);
+    Some(Spoiled {
+        kind: "byte of a row and reserved byte",
+        slot: 0,
+        ..spoiled
     })
 }
 

@@ -23,8 +23,8 @@ mod summary;
 mod wild;
 
 pub use audit::{
-    bad_page, other_reserved, other_row, other_type, repacked, row_lost, row_twice, touched_pages,
-    untouched_byte, Spoiled,
+    bad_page, other_reserved, other_row, other_type, repacked, row_and_reserved, row_lost,
+    row_twice, touched_pages, two_rows, untouched_byte, Spoiled,
 };
 pub use case::{case, mutated_by, Case, Earlier, Honest};
 pub use catalog::{catalog, catalog_id, table_payload, Catalog, CatalogRow, TableParts};

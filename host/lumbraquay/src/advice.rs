@@ -10,7 +10,7 @@ use crate::failure::Failure;
 use crate::fault;
 use crate::files::{is_standard, with_ending};
 use crate::found::{after_damage, found, is_page_file, is_swapped, After};
-use crate::input::{head_fields, Log, Pages, Read};
+use crate::input::{head_fields, Log, Pages, Read, Side};
 use crate::json::Json;
 use crate::output::Output;
 use crate::show;
@@ -57,7 +57,7 @@ pub fn refusal_fields(verdict: Verdict, read: Read) -> Vec<(&'static str, Json)>
 pub fn text(verdict: Verdict, read: Read) -> String {
     let Verdict { number, place } = verdict;
     let name = refusal::refusal(number).map_or("unknown", |refusal| refusal.name);
-    let place = match (place_of(number), read.pages, read.log) {
+    let place = match (place_of(number), read.refused_pages(), read.log) {
         (Place::Nothing, _, _) => {
             file_of(number, read).map_or(String::new(), |path| format!(" of {}", path.display()))
         }
@@ -84,7 +84,7 @@ pub fn text(verdict: Verdict, read: Read) -> String {
     };
     let mut text = format!("refused: {number} {name}{place}\n");
     if let Some(side) = read.side {
-        text += &format!("  refused are {side}\n");
+        text += &format!("  refused are {}\n", side.words());
     }
     text += &format!("  meaning:    {}\n", meaning(number));
     if let Some(found) = found(verdict, read) {
@@ -116,32 +116,38 @@ fn meaning(number: u64) -> &'static str {
 /// What to do about a refusal, with what is known of the files.
 fn advice(verdict: Verdict, read: Read) -> String {
     if is_swapped(verdict, read) {
-        return match (read.is_catalog, read.log) {
-            (true, _) => "it starts with WALN, as logs do: give --catalog the page file that holds the catalog",
-            (false, Some(_)) => "the page file starts with WALN, as logs do: give PAGES first, then LOG",
-            (false, None) => "it starts with WALN, as logs do: give the page file",
+        return match (read.is_catalog, read.log, read.after) {
+            (true, _, _) => "it starts with WALN, as logs do: give --catalog the page file that holds the catalog",
+            (false, _, Some(_)) => "the page file starts with WALN, as logs do: give BEFORE first, then LOG, then AFTER",
+            (false, Some(_), None) => "the page file starts with WALN, as logs do: give PAGES first, then LOG",
+            (false, None, None) => "it starts with WALN, as logs do: give the page file",
         }
         .to_string();
     }
     if verdict.number == refusal::DOUBLEWRITE_PAGES && read.list.is_some() {
         return "name pages that are there, each once, the lower ones first".to_string();
     }
+    let of_after = read.side == Some(Side::After);
     let mut parts = vec![match (verdict.number, read.is_catalog) {
         (refusal::PAGE_MAGIC_OR_TYPE, true) => CATALOG_MAGIC_OR_TYPE,
+        _ if of_after => PAGES_AFTER,
         (number, _) => general(number),
     }
     .to_string()];
     if is_page_file(verdict, read) {
-        let order = match (read.pages, read.summary) {
-            (None, _) => "",
-            (Some(_), None) => ": PAGES comes first, then LOG",
-            (Some(_), Some(_)) => ": FILE comes first, then PAGES",
+        let order = match (read.pages, read.summary, read.after) {
+            (None, _, _) => "",
+            (Some(_), _, Some(_)) => ": BEFORE comes first, then LOG, then AFTER",
+            (Some(_), None, None) => ": PAGES comes first, then LOG",
+            (Some(_), Some(_), None) => ": FILE comes first, then PAGES",
         };
         parts.push(format!("by its length it may be a page file{order}"));
     }
     parts.extend(read.log.and_then(|log| until(verdict, log)));
-    parts.extend(copies(verdict, read));
-    parts.extend(read.pages.and_then(|pages| wrong_magic(verdict, pages)));
+    if !of_after {
+        parts.extend(copies(verdict, read));
+        parts.extend(read.pages.and_then(|pages| wrong_magic(verdict, pages)));
+    }
     parts.extend(where_others_are(verdict, read).map(str::to_string));
     parts.join("; ")
 }
@@ -211,6 +217,9 @@ fn until(verdict: Verdict, log: &Log) -> Option<String> {
 
 /// The pages of --catalog are judged by the magic of their page 0 alone.
 const CATALOG_MAGIC_OR_TYPE: &str = "if the magic is what differs, see that this is the page file; else put the page back from a backup or the double-write file";
+
+/// The pages after a repair are judged by the magic of those before, and nobody mends them but the repair.
+const PAGES_AFTER: &str = "see that AFTER is the same page file as BEFORE, after the repair, and was copied whole; if so, the repair left this page bad";
 
 fn general(number: u64) -> &'static str {
     match number {

@@ -245,8 +245,9 @@ impl Parsed {
         for ((name, _), given) in self.command.takes.iter().zip(&self.given) {
             let given = Json::text(given.to_string_lossy());
             match *name {
-                "PAGES" => fields.push(("pages_file", given)),
+                "PAGES" | "BEFORE" => fields.push(("pages_file", given)),
                 "LOG" => fields.push(("log_file", given)),
+                "AFTER" => fields.push(("after_file", given)),
                 "FILE.dw" => fields.push(("doublewrite_file", given)),
                 "FILE" => fields.push(("summary_file", given)),
                 _ => (),

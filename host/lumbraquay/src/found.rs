@@ -31,7 +31,7 @@ pub fn found(verdict: Verdict, read: Read) -> Option<String> {
         refusal::PAGE_MAGIC_OR_TYPE
         | refusal::PAGE_ID
         | refusal::PAGE_CHECKSUM
-        | refusal::PAGE_SLOTS => fault::words(read.pages?, verdict),
+        | refusal::PAGE_SLOTS => fault::words(read.refused_pages()?, verdict),
         refusal::PAGE_LSN => lsns(read, place),
         refusal::NO_DATA_PAGE => no_data_page(read, place),
         refusal::PAGE_OVERFULL => needed(read.pages?, read.log?, place),
@@ -46,6 +46,10 @@ pub fn found(verdict: Verdict, read: Read) -> Option<String> {
         refusal::SUMMARY_ENDS_EARLY..=refusal::SUMMARY_LEFT_OVER => {
             Some(summary::found(read.summary?, number, place))
         }
+        refusal::PAGE_AREAS_DIFFER => Some(format!(
+            "{} bytes before, {} after",
+            read.pages?.length, read.after?.length
+        )),
         _ => None,
     }
 }
@@ -54,7 +58,8 @@ pub fn found(verdict: Verdict, read: Read) -> Option<String> {
 pub fn is_swapped(verdict: Verdict, read: Read) -> bool {
     let is_log = |bytes: &[u8]| bytes.starts_with(b"WALN");
     let of_pages = verdict.number == refusal::PAGE_AREA || fault::bad_page(verdict).is_some();
-    of_pages && read.pages.is_some_and(|pages| is_log(&pages.bytes))
+    let pages = read.refused_pages();
+    of_pages && pages.is_some_and(|pages| is_log(&pages.bytes))
 }
 
 /// Whether what was given for a log or a summary may be a page file.

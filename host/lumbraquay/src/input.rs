@@ -34,6 +34,7 @@ enum MagicFrom {
     Given,
     Page0,
     Copy,
+    Before,
 }
 
 impl Pages {
@@ -48,11 +49,14 @@ impl Pages {
         Pages::of(parsed, path, files::read(path, PAGE_BYTES * PAGE_LIMIT)?)
     }
 
-    /// The same of pages that are judged by the magic of others.
-    pub fn read_like(parsed: &Parsed, index: usize, others: &Pages) -> Result<Pages, Failure> {
+    /// The same of the pages after a repair, which are judged by the magic of those before.
+    pub fn read_after(parsed: &Parsed, index: usize, before: &Pages) -> Result<Pages, Failure> {
         let path = parsed.path(index);
         let whole = files::read(path, PAGE_BYTES * PAGE_LIMIT)?;
-        Pages::with_magic(path, whole, Some(others.magic))
+        Ok(Pages {
+            magic_from: MagicFrom::Before,
+            ..Pages::with_magic(path, whole, Some(before.magic))?
+        })
     }
 
     /// The same of a page file that is held to be replaced.
@@ -163,6 +167,7 @@ impl Pages {
             MagicFrom::Given => "as given",
             MagicFrom::Page0 => "read off page 0",
             MagicFrom::Copy => "read off the copy of page 0 in the double-write file",
+            MagicFrom::Before => "that of the pages before",
         }
     }
 
@@ -356,8 +361,28 @@ pub struct Read<'a> {
     pub all_listed: bool,
     /// Whether the pages are those of --catalog.
     pub is_catalog: bool,
-    /// Which side of a repair is refused, where both are looked at.
-    pub side: Option<&'static str>,
+    /// The pages after a repair, where one is judged.
+    pub after: Option<&'a Pages>,
+    /// Which side of it is refused.
+    pub side: Option<Side>,
+}
+
+/// A side of a repair that is judged.
+#[derive(Clone, Copy, PartialEq, Eq)]
+pub enum Side {
+    Before,
+    Both,
+    After,
+}
+
+impl Side {
+    pub fn words(self) -> &'static str {
+        match self {
+            Side::Before => "the pages before and the log",
+            Side::Both => "both sides: they differ in length",
+            Side::After => "the pages after",
+        }
+    }
 }
 
 impl<'a> Read<'a> {
@@ -407,6 +432,23 @@ impl<'a> Read<'a> {
         }
     }
 
+    /// A repair of which this side is refused.
+    pub fn repair(self, after: &'a Pages, side: Side) -> Read<'a> {
+        Read {
+            after: Some(after),
+            side: Some(side),
+            ..self
+        }
+    }
+
+    /// The pages that a refusal of pages speaks of.
+    pub fn refused_pages(&self) -> Option<&'a Pages> {
+        match self.side {
+            Some(Side::After) => self.after,
+            _ => self.pages,
+        }
+    }
+
     pub fn with(self, doublewrite: &'a Doublewrite) -> Read<'a> {
         Read {
             doublewrite: Some(doublewrite),
@@ -444,7 +486,10 @@ impl Read<'_> {
         fields.extend(self.log.map_or(Vec::new(), Log::fields));
         fields.extend(self.doublewrite.map_or(Vec::new(), Doublewrite::fields));
         fields.extend(self.summary.map_or(Vec::new(), Summary::fields));
-        fields.extend(self.side.map(|side| ("refused_are", side.into())));
+        let after = self.after.map(|after| Json::text(after.path.display()));
+        fields.extend(after.map(|after| ("after_file", after)));
+        let side = self.side.map(|side| side.words().into());
+        fields.extend(side.map(|side| ("refused_are", side)));
         fields
     }
 }

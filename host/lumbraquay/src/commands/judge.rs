@@ -8,7 +8,7 @@ use library::{Finding, Verdict};
 use crate::advice::unless_refused;
 use crate::args::{Choice, Command, Parsed, FLOOR, JSON, LOG_UNTIL, MAGIC};
 use crate::failure::Failure;
-use crate::input::{head_fields, Log, Pages, Read};
+use crate::input::{head_fields, Log, Pages, Read, Side};
 use crate::json::Json;
 use crate::output::Output;
 use crate::show;
@@ -41,7 +41,7 @@ fn run(parsed: &Parsed, output: &mut Output) -> Result<(), Failure> {
     let floor = parsed.chosen_number("--floor")?.unwrap_or(0);
     let before = Pages::read(parsed)?;
     let log = Log::read(parsed, 1)?;
-    let after = Pages::read_like(parsed, 2, &before)?;
+    let after = Pages::read_after(parsed, 2, &before)?;
     let sides = Sides {
         before: &before,
         log: &log,
@@ -151,20 +151,12 @@ impl<'a> Sides<'a> {
             return Ok(());
         }
         let of_before = self.row(0, 0).number;
-        let read = match (verdict.number, of_before) {
-            (PAGE_AREAS_DIFFER, 0 | NO_SUCH_PAGE) => Read {
-                side: Some("both sides: they differ in length"),
-                ..Read::both(self.before, self.log, self.floor)
-            },
-            (_, 0 | NO_SUCH_PAGE) => Read {
-                side: Some("the pages after"),
-                ..Read::pages(self.after)
-            },
-            _ => Read {
-                side: Some("the pages before and the log"),
-                ..Read::both(self.before, self.log, self.floor)
-            },
+        let side = match (verdict.number, of_before) {
+            (PAGE_AREAS_DIFFER, 0 | NO_SUCH_PAGE) => Side::Both,
+            (_, 0 | NO_SUCH_PAGE) => Side::After,
+            _ => Side::Before,
         };
+        let read = Read::both(self.before, self.log, self.floor).repair(self.after, side);
         unless_refused(parsed, output, verdict, read)
     }
 

@@ -23,6 +23,8 @@ const OF_PAGES: [&str; 15] = [
     "recover P outage.log --dry-run",
     "recover P outage.log --in-place",
 ];
+/// The use of one whose length is first compared with that of another.
+const OF_PAGES_AFTER: &str = "judge outage.pages outage.log P";
 const OF_LOG: [&str; 7] = [
     "log L",
     "log L --backward",
@@ -37,7 +39,7 @@ const OF_LOG: [&str; 7] = [
 #[track_caller]
 fn all_fail(sandbox: &Sandbox, name: &str, text: &str) {
     let before = sandbox.contents();
-    for words in OF_PAGES.iter().chain(&OF_LOG) {
+    for words in OF_PAGES.iter().chain(&[OF_PAGES_AFTER]).chain(&OF_LOG) {
         let words = words.replace(['P', 'L'], name);
         sandbox.say(&words).fails(&[text]);
         let told = sandbox.say(&format!("{words} --json")).fails_as_json(text);
@@ -110,7 +112,7 @@ fn unreadable_files() {
 fn empty_files() {
     let sandbox = Sandbox::with_outage();
     sandbox.write("empty", b"");
-    for words in OF_PAGES {
+    for words in OF_PAGES.iter().chain(&[OF_PAGES_AFTER]) {
         let words = words.replace('P', "empty");
         sandbox
             .say(&words)
@@ -178,6 +180,12 @@ fn files_over_the_limits() {
         &OF_PAGES,
         "huge",
         &["refused: 1 PAGE_AREA of huge\n", "1099511627776 bytes"],
+    );
+    all_refuse(
+        &sandbox,
+        &[OF_PAGES_AFTER],
+        "huge",
+        &["refused: 39 PAGE_AREAS_DIFFER\n", "1099511627776 after"],
     );
     all_refuse(
         &sandbox,

@@ -2,9 +2,13 @@
 
 use generate::{live_tuple, log_header, DataPage, Entry, Slots, BEGIN, COMMIT};
 
+use crate::json::Value;
 use crate::sandbox::Sandbox;
 
 const MAGIC: u64 = u64::from_le_bytes(*b"CRANES01");
+
+/// The names under which JSON has the pages before, the log and the pages after.
+const FILES: [&str; 3] = ["pages_file", "log_file", "after_file"];
 
 /// Two data pages; the first gets a row by the log, and a row of it is cancelled.
 fn before() -> Vec<u8> {
@@ -153,30 +157,73 @@ fn refusals_name_their_side() {
     sandbox.say("judge before log short").refuses(&[
         "refused: 39 PAGE_AREAS_DIFFER\n",
         "  refused are both sides: they differ in length\n",
+        "  found:      32768 bytes before, 16384 after\n",
     ]);
+    let refused = |words: &str| sandbox.say(&format!("{words} --json")).ends(3).json();
+    let files = |told: &Value| FILES.map(|name| told.text(name).to_string());
+    let told = refused("judge before log short");
+    assert_eq!(files(&told), ["before", "log", "short"]);
+    assert_eq!(told.text("found"), "32768 bytes before, 16384 after");
     let mut torn = after.clone();
     torn[16_384 + 100] ^= 1;
     sandbox.write("torn", &torn);
     sandbox.say("judge before log torn").refuses(&[
         "refused: 18 PAGE_CHECKSUM at page 1 of torn, offset 16384\n",
         "  refused are the pages after\n",
+        "if so, the repair left this page bad; `verify --all` lists every bad page\n",
     ]);
     sandbox.say("judge torn log after").refuses(&[
         "refused: 18 PAGE_CHECKSUM at page 1 of torn, offset 16384\n",
         "  refused are the pages before and the log\n",
     ]);
-    let told = sandbox.say("judge torn log after --json").ends(3).json();
+    let told = refused("judge torn log after");
     assert_eq!(told.text("result"), "refused");
     assert_eq!(told.text("refused_are"), "the pages before and the log");
-    let told = sandbox.say("judge before log torn --json").ends(3).json();
+    assert_eq!(files(&told), ["torn", "log", "after"]);
+    let told = refused("judge before log torn");
     assert_eq!(told.text("refused_are"), "the pages after");
+    assert_eq!(files(&told), ["before", "log", "torn"]);
+    assert_eq!(told.text("magic"), "0x313053454e415243");
+    assert_eq!(told.text("magic_from"), "read off page 0");
     // All are judged by the magic of the pages before.
     let mut other = after;
     other[0] ^= 1;
     sandbox.write("other", &other);
-    sandbox.say("judge before log other").refuses(&[
+    let done = sandbox.say("judge before log other").refuses(&[
         "refused: 11 PAGE_MAGIC_OR_TYPE at page 0 of other, offset 0\n",
         "  refused are the pages after\n",
+        "which should be 0x313053454e415243 (that of the pages before)",
+        "see that AFTER is the same page file as BEFORE, after the repair, and was copied whole",
     ]);
+    assert!(!done.err.contains("--magic"), "{done:#?}");
+    // The three files in another order.
+    sandbox
+        .say("judge before after log")
+        .refuses(&[": BEFORE comes first, then LOG, then AFTER\n"]);
+    sandbox
+        .say("judge log before after")
+        .refuses(&["as logs do: give BEFORE first, then LOG, then AFTER\n"]);
+    // A copy beside the pages after mends nothing that is judged.
+    sandbox.write("torn.dw", b"");
+    let done = sandbox.say("judge before log torn").ends(3);
+    assert!(!done.err.contains("torn.dw"), "{done:#?}");
     assert!(sandbox.read("before") == before());
+}
+
+/// An error names the files that were given too.
+#[test]
+fn errors_name_the_files() {
+    let sandbox = repaired();
+    let told = sandbox
+        .say("judge before log missing --json")
+        .fails_as_json("cannot open missing: No such file");
+    let files = FILES.map(|name| told.text(name));
+    assert_eq!(files, ["before", "log", "missing"]);
+    assert_eq!(told.text("magic"), "0x313053454e415243");
+    let told = sandbox
+        .say("judge missing log after --json")
+        .fails_as_json("cannot open missing: No such file");
+    let files = FILES.map(|name| told.text(name));
+    assert_eq!(files, ["missing", "log", "after"]);
+    assert!(told.is_null("magic"));
 }
