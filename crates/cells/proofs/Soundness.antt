@@ -1,22 +1,16 @@
--- An entry before a place is one of the entries before it; so entries that keep the rules but for clashes are sound. Assumes nothing.
+-- An entry before a place is one of the entries before it; so entries whose shapes are right and whose LSNs rise are sound. Assumes nothing.
 use Prim.Native.Nat.{ℕ, _+_, _<_}
 use native.Mathlib.Decide.{decLt}
 use native.Mathlib.Omega.{arith}
-use mathlib.Core.Path.{_≡_, refl, sym, ap, _∙_, subst}
+use mathlib.Core.Path.{_≡_, sym, ap, _∙_, subst}
 use mathlib.Core.Bool.{Bool, true, false}
 use mathlib.Core.List.{List, [], _∷_, _++_, append-assoc, append-nil}
-use lib.Dec.{ltb, eqb}
-use borrow.Author.Tests.{ltb-true, eqb-true}
-use Rattle.endian.specs.Pick.{pick}
 use Rattle.wal.specs.Entry.{Entry}
-use Rattle.wal.specs.Walk.{entries}
 use Rattle.wal.specs.Prefix.{Met, said, before}
 use Rattle.wal.proofs.Prefix.{before-next, met-below, met-from, Along, start, more, along}
-use Rattle.rules.specs.Shape.{isKnown, isShaped}
+use Rattle.rules.specs.Shape.{isShaped}
 use Rattle.rules.specs.Order.{any, lastLsn}
-use Rattle.rules.proofs.Tests.{into, either-false}
-use Rattle.order.specs.State.{basicFault, basicAfter}
-use Rattle.order.specs.Clash.{passed}
+use Rattle.rules.proofs.Tests.{either-false}
 use Rattle.cells.specs.Measure.{Sound}
 
 -- the entries before q are those before p, the one at p, and some more
@@ -64,24 +58,3 @@ sound-of {s} {stop} n h = record { shaped = λ m l. at m l .0; rises = λ m l. a
   where
     at : {p : ℕ} → Met s p → p < stop → (isShaped (said s p) ≡ true) × (lastLsn (before s p) < said s p .lsn)
     at {p} m l = let a = among m n l in rising-in [] (before s p) (said s p) (a .rest) (subst (Rising []) (a .is) h)
-
-basic-rising : (full : ℕ → Bool) (es : List Entry) (e : Entry) → basicAfter full es e ≡ 0 → (isShaped e ≡ true) × (lastLsn es < e .lsn)
-unfolding basicAfter basicFault
-basic-rising full es e h =
-    let a = into (isKnown (e .kind)) (λ z. omega arith) h in
-    let b = into (isShaped e) (λ z. omega arith) (a .1) in
-    let c = into (ltb (lastLsn es) (e .lsn)) (λ z. omega arith) (b .1) in
-    (b .0, ltb-true _ _ (c .0))
-
--- the entries before the first that breaks another rule than that on clashes
-pub rising-passed : (full : ℕ → Bool) (es fs : List Entry) → Rising es (passed full es fs)
-unfolding passed
-rising-passed full es [] = tt
-rising-passed full es (f ∷ fs) = go (eqb (basicAfter full es f) 0) refl (rising-passed full (es ++ (f ∷ [])) fs)
-  where
-    go : (b : Bool) → eqb (basicAfter full es f) 0 ≡ b → Rising (es ++ (f ∷ [])) (passed full (es ++ (f ∷ [])) fs) → Rising es (pick {A = List Entry} b (f ∷ passed full (es ++ (f ∷ [])) fs) [])
-    go true q r = (basic-rising full es f (eqb-true _ _ q), r)
-    go false q r = tt
-
-pub sound-passed : (full : ℕ → Bool) {s : List ℕ} {stop : ℕ} → Met s stop → before s stop ≡ passed full [] (entries s) → Sound s stop
-sound-passed full {s} m e = sound-of m (rw e (rising-passed full [] (entries s)))

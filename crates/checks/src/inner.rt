@@ -18,16 +18,16 @@ ghost use Rattle.cells.specs.Cell.{Starts};
 ghost use Rattle.cells.specs.Listing.{Lists};
 ghost use Rattle.cells.specs.Measure.{Sound, FirstBeyond};
 ghost use Rattle.order.specs.First.{fullOf};
-ghost use Rattle.order.specs.Hints.{Hints};
 ghost use Rattle.checks.specs.Judged.{Judged, OfData};
 use crate::Found;
+use crate::PLACES;
 use cells::inner::measure;
 use cells::inner::page_at;
+use change::inner::is_change;
 use clash::inner::clash;
 use crc32c::inner::Tables;
 use endian::Lsn;
 use order::Walked;
-use order::inner::is_change;
 use order::inner::walk;
 use page::DATA_TYPE;
 use page::PAGE_BYTES;
@@ -64,11 +64,11 @@ pub fn judge_log(
     lasts: &mut [u32; 4096],
     lists: &mut [u32; 4097],
     space: &mut [u8; 655360],
-    hints: &mut [u32; 16384],
+    begins: &mut [u32; PLACES],
+    ends: &mut [u32; PLACES],
 ) -> Found
     requires { ⌜ Tables (now t) ⌝ }
     requires { ⌜ n ≤ 4096 ⌝ }
-    requires { ⌜ Hints (now log) first (now hints) ⌝ }
     ensures { λ r. ⌜ Judged (fullOf bounded records) (now (log .entry)) n (now (starts .exit)) (now (lasts .exit)) (r .walked) ⌝ }
     ensures { λ r. ⌜ (r .walked .number ≡ 0 → Lists (entries (now (log .entry))) n (now (lists .exit))) ⌝ }
     ensures { λ r. ⌜ (r .walked .number ≡ 0 → FirstBeyond (now (log .entry)) (endOf (now (log .entry))) n (r .beyond)) ⌝ }
@@ -77,7 +77,7 @@ pub fn judge_log(
     if number != 0 {
         return refused_at(number, 0);
     }
-    let w = walk(t, log, bounded, records, hints);
+    let w = walk(t, log, bounded, records, &mut begins[..], &mut ends[..]);
     let beyond = measure(log, w.place, n, starts, lasts, lists);
     let at = clash(log, w.place, n, beyond, starts, space);
     if at < w.place {

@@ -8,3 +8,6 @@ pub struct Found {
     pub walked: Walked,
     pub beyond: usize,
 }
+
+// So many Begins, and as many endings, are sorted at a time where the order of transactions takes it.
+pub const PLACES: usize = 16384;

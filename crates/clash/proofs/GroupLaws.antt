@@ -19,7 +19,7 @@ use Rattle.wal.specs.Prefix.{Met, Stands, said, before}
 use Rattle.rules.specs.Shape.{both, isChange, isOn, pageOf, slotOf, topOn}
 use Rattle.rules.specs.Mend.{topOf}
 use Rattle.rules.proofs.Tests.{both-true, true-both, false-true}
-use Rattle.order.specs.Clash.{clashAfter}
+use Rattle.states.specs.Clash.{clashAfter}
 use Rattle.cells.specs.Cell.{startOf, cellOf, Blank}
 use Rattle.cells.proofs.CellLaws.{start-rises, cell-below, cell-one}
 use Rattle.clash.specs.Newest.{onSlot, kept, Newest}

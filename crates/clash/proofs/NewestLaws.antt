@@ -14,9 +14,9 @@ use Rattle.wal.specs.Read.{lengthAt}
 use Rattle.wal.specs.Prefix.{Met, Stands, said, before}
 use Rattle.wal.proofs.Prefix.{Back, met-from, before-first, before-next}
 use Rattle.rules.specs.Shape.{both, isChange, isOn, pageOf, slotOf, sameSlot}
-use Rattle.order.specs.State.{stateOf}
-use Rattle.order.specs.Clash.{newestFrom, newestBy, clashAfter}
-use Rattle.order.proofs.Back.{said-txn}
+use Rattle.states.specs.State.{stateOf}
+use Rattle.states.specs.Clash.{newestFrom, newestBy, clashAfter}
+use Rattle.states.proofs.Back.{said-txn}
 use Rattle.clash.specs.Newest.{onSlot, newestOn, kept, Newest}
 
 -- ---- for the slot of an entry

@@ -16,10 +16,9 @@ use Rattle.wal.specs.Prefix.{Met, Stands, said, before}
 use Rattle.wal.proofs.Prefix.{stands-at, before-first}
 use Rattle.rules.specs.Shape.{either, isChange, pageOf, slotOf}
 use Rattle.rules.proofs.Tests.{both-true, false-true}
-use Rattle.order.specs.State.{stateAfter, stateFrom, stateOf}
-use Rattle.order.specs.Clash.{clashAfter}
-use Rattle.order.proofs.Back.{said-txn}
-use Rattle.order.proofs.HintLaws.{state-own, state-keeps}
+use Rattle.states.specs.State.{stateAfter, stateFrom, stateOf}
+use Rattle.states.specs.Clash.{clashAfter}
+use Rattle.states.proofs.Back.{said-txn, state-own, state-keeps}
 use Rattle.clash.specs.Newest.{newestOn, kept, Newest}
 use Rattle.clash.specs.Open.{isOf, Open, Opens, Quiet}
 use Rattle.clash.proofs.NewestLaws.{clash-none, clash-own, clash-state, kept-none, kept-rest}

@@ -1,27 +1,24 @@
--- From the first clash to the verdict on clashes. Assumes nothing.
+-- The first clash on some pages, group by group. Assumes nothing.
 use Prim.Native.Nat.{ℕ, _+_, _^_, _≤_, _<_, max}
-use mathlib.Core.Path.{_≡_, refl, sym, ap, ap₂, _∙_}
+use mathlib.Core.Path.{_≡_, refl, sym, ap, _∙_}
 use mathlib.Core.Bool.{Bool, true, false}
-use mathlib.Core.List.{List, [], _∷_, _++_, append-assoc, append-nil}
+use mathlib.Core.List.{List, [], _∷_, _++_, append-assoc}
 use native.Mathlib.Omega.{arith}
 use native.Mathlib.Decide.{decLt, ℕ-discrete}
 use lib.ListN.{getD}
 use lib.Dec.{ltb, leb}
 use borrow.Author.Tests.{lt-ltb, le-ltb, le-leb, lt-leb}
-use Rattle.endian.specs.Pick.{pick}
 use Rattle.endian.specs.Numbers.{Bytes}
 use Rattle.endian.proofs.Bytes.{number-range, bytes-take, bytes-drop}
-use Rattle.wal.specs.Entry.{Entry, entryOf, sizeOf, sizesOf}
-use Rattle.wal.specs.Read.{lengthAt, keyLen, view}
-use Rattle.wal.specs.Prefix.{Met, Stands, said, before}
-use Rattle.wal.proofs.Places.{size-of}
-use Rattle.wal.proofs.Prefix.{Along, start, more, along, stands-at, met-from, met-below, before-first, before-next}
-use Rattle.refusals.specs.Verdict.{verdict, accepted, _then_}
+use Rattle.wal.specs.Entry.{Entry, entryOf}
+use Rattle.wal.specs.Read.{keyLen, view}
+use Rattle.wal.specs.Prefix.{Met, said, before}
+use Rattle.wal.proofs.Prefix.{Along, start, more, along, met-from, met-below, before-next}
 use Rattle.rules.specs.Shape.{both, either, isChange, pageOf, topOn}
 use Rattle.rules.specs.Mend.{topOf}
 use Rattle.rules.proofs.Slots.{top-append}
 use Rattle.rules.proofs.Tests.{false-true, true-both}
-use Rattle.order.specs.Clash.{clashAfter, clashFrom}
+use Rattle.states.specs.Clash.{clashAfter}
 use Rattle.cells.specs.Measure.{Sound, isBeyond, FirstBeyond}
 use Rattle.cells.specs.Cell.{Starts}
 use Rattle.cells.proofs.Soundness.{none-before}
@@ -29,37 +26,7 @@ use Rattle.clash.specs.First.{isIn, clashIn, FirstIn}
 use Rattle.clash.specs.Group.{Ground}
 use Rattle.clash.proofs.NewestLaws.{no-clash}
 
--- ---- entries one after the other
-clash-append : (es fs gs : List Entry) (at : ℕ) → clashFrom es (fs ++ gs) at ≡ (clashFrom es fs at then clashFrom (es ++ fs) gs (at + sizesOf fs))
-unfolding clashFrom
-clash-append es [] gs at = ap₂ (λ (l : List Entry) (x : ℕ). clashFrom l gs x) (sym (append-nil es)) (omega arith)
-clash-append es (f ∷ fs) gs at = go (clashAfter es f) (clash-append (es ++ (f ∷ [])) fs gs (at + sizeOf f))
-  where
-    go : (b : Bool) → clashFrom (es ++ (f ∷ [])) (fs ++ gs) (at + sizeOf f) ≡ (clashFrom (es ++ (f ∷ [])) fs (at + sizeOf f) then clashFrom ((es ++ (f ∷ [])) ++ fs) gs (at + sizeOf f + sizesOf fs))
-        → pick b (verdict 9 at) (clashFrom (es ++ (f ∷ [])) (fs ++ gs) (at + sizeOf f))
-        ≡ (pick b (verdict 9 at) (clashFrom (es ++ (f ∷ [])) fs (at + sizeOf f)) then clashFrom (es ++ (f ∷ fs)) gs (at + sizesOf (f ∷ fs)))
-    go true h = refl
-    go false h =
-        let e : at + sizeOf f + sizesOf fs ≡ at + sizesOf (f ∷ fs) = omega arith in
-        h ∙ ap₂ (λ (l : List Entry) (x : ℕ). clashFrom (es ++ (f ∷ [])) fs (at + sizeOf f) then clashFrom l gs x) (append-assoc es (f ∷ []) fs) e
-
-sizes-snoc : (es : List Entry) (e : Entry) → sizesOf (es ++ (e ∷ [])) ≡ sizesOf es + sizeOf e
-sizes-snoc [] e = omega arith
-sizes-snoc (d ∷ es) e = omega (arith, sizes-snoc es e)
-
 module _ (s : List ℕ) where
-  -- a place is where the sizes of the entries before it lead
-  place-along : {p : ℕ} → Along s p → p ≡ 32 + sizesOf (before s p)
-  place-along start = rw (before-first s)
-  place-along {p} (more {p = q} w m h e) =
-      let k = size-of (stands-at h) in
-      let z : p ≡ 32 + sizesOf (before s q) + sizeOf (said s q) = omega (arith, place-along w, length-is h) in
-      let y : sizesOf (before s p) ≡ sizesOf (before s q) + sizeOf (said s q) = ap (λ (x : ℕ). sizesOf (before s x)) e ∙ ap sizesOf (before-next s m h) ∙ sizes-snoc (before s q) (said s q) in
-      omega arith
-    where
-      length-is : {q : ℕ} → Stands s q → sizeOf (said s q) ≡ lengthAt s q
-      length-is h = size-of (stands-at h) ∙ sym (stands-at h .front)
-
   -- the entries before a later place are those before an earlier one, the entry there and some more
   later : {p q : ℕ} → Met s p → p < q → Along s q → (rest : List Entry) × (before s q ≡ before s p ++ (said s p ∷ rest))
   later {p} m l start = absurd (omega (arith, met-from s m))
@@ -75,26 +42,6 @@ module _ (s : List ℕ) where
           (g .0 ++ (said s r ∷ []), step ∙ ap (λ (l : List Entry). l ++ (said s r ∷ [])) (g .1) ∙ append-assoc (before s p) (said s p ∷ g .0) (said s r ∷ []))
       go (no z) (no k) f = absurd (omega (arith, met-below s n m (omega arith) .next))
 
-  -- without a clash
-  clash-clean : {p : ℕ} → Along s p → ((q : ℕ) → Met s q → q < p → clashAfter (before s q) (said s q) ≡ false) → clashFrom [] (before s p) 32 ≡ accepted
-  unfolding clashFrom
-  clash-clean start none = rw (before-first s)
-  clash-clean {p} (more {p = q} w m h e) none =
-      let low : q < p = omega (arith, stands-at h .front, stands-at h .low) in
-      let old = clash-clean w (λ r n l. none r n (omega arith)) in
-      ap (λ (x : ℕ). clashFrom [] (before s x) 32) e ∙ ap (λ (l : List Entry). clashFrom [] l 32) (before-next s m h) ∙ clash-append [] (before s q) (said s q ∷ []) 32
-      ∙ rw (old, none q m low)
-
-  -- the first clash
-  clash-first : {p stop : ℕ} → Met s p → Met s stop → p < stop → ((q : ℕ) → Met s q → q < p → clashAfter (before s q) (said s q) ≡ false) → clashAfter (before s p) (said s p) ≡ true
-      → clashFrom [] (before s stop) 32 ≡ verdict 9 p
-  unfolding clashFrom
-  clash-first {p} {stop} m n l none some =
-      let g = later m l (along n) in
-      let old = clash-clean (along m) none in
-      let place : 32 + sizesOf (before s p) ≡ p = sym (place-along (along m)) in
-      ap (λ (l : List Entry). clashFrom [] l 32) (g .1) ∙ clash-append [] (before s p) (said s p ∷ g .0) 32 ∙ rw (old, some, place)
-
   -- ---- all pages
   page-in : Bytes s → (p : ℕ) → isIn 0 (2 ^ 64) (said s p) ≡ true
   unfolding isIn entryOf view
@@ -102,21 +49,8 @@ module _ (s : List ℕ) where
       let h : pageOf (said s p) < 2 ^ 64 = number-range 8 0 (bytes-take (keyLen s p) (bytes-drop (p + 27) b)) in
       true-both (le-leb 0 (pageOf (said s p)) (omega arith)) (lt-ltb (pageOf (said s p)) (2 ^ 64) h)
 
-  clash-all : Bytes s → (p : ℕ) → clashIn 0 (2 ^ 64) s p ≡ clashAfter (before s p) (said s p)
+  pub clash-all : Bytes s → (p : ℕ) → clashIn 0 (2 ^ 64) s p ≡ clashAfter (before s p) (said s p)
   clash-all b p = rw (page-in b p)
-
-  -- the verdict, by the first clash
-  pub clash-verdict : {stop r : ℕ} → Bytes s → Met s stop → FirstIn 0 (2 ^ 64) s stop r → clashFrom [] (before s stop) 32 ≡ pick (ltb r stop) (verdict 9 r) accepted
-  clash-verdict {stop} {r} b m f = go (decLt r stop)
-    where
-      none : (q : ℕ) → Met s q → q < r → clashAfter (before s q) (said s q) ≡ false
-      none q n l = sym (clash-all b q) ∙ f .none q n l
-
-      go : Dec (r < stop) → clashFrom [] (before s stop) 32 ≡ pick (ltb r stop) (verdict 9 r) accepted
-      go (yes l) = clash-first (f .met) m l none (f .some l) ∙ sym (rw (lt-ltb r stop l))
-      go (no l) =
-          let e : r ≡ stop = omega (arith, f .low) in
-          clash-clean (along m) (λ q n k. none q n (omega arith)) ∙ sym (rw (le-ltb r stop (omega arith)))
 
 -- ---- group by group
 in-split : (a b c : ℕ) (e : Entry) → a ≤ b → b ≤ c → isIn a c e ≡ either (isIn a b e) (isIn b c e)

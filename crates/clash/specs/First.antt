@@ -7,7 +7,7 @@ use lib.Dec.{ltb, leb}
 use Rattle.wal.specs.Entry.{Entry}
 use Rattle.wal.specs.Prefix.{Met, said, before}
 use Rattle.rules.specs.Shape.{both, isShaped, pageOf}
-use Rattle.order.specs.Clash.{clashAfter}
+use Rattle.states.specs.Clash.{clashAfter}
 
 -- the entry's page is one from lo up to hi
 unfoldable pub isIn : ℕ → ℕ → Entry → Bool

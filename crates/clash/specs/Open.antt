@@ -8,7 +8,7 @@ use lib.Dec.{ltb, eqb}
 use Rattle.endian.specs.Numbers.{numberAt}
 use Rattle.wal.specs.Prefix.{before}
 use Rattle.rules.specs.Shape.{both, either}
-use Rattle.order.specs.State.{stateOf}
+use Rattle.states.specs.State.{stateOf}
 use Rattle.clash.specs.Newest.{kept}
 
 -- v is a place, and the entry there is of transaction t; 0 and 1 are no places

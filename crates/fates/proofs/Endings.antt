@@ -19,8 +19,8 @@ use Rattle.rules.specs.Order.{any, is, ended}
 use Rattle.rules.specs.Recover.{outcomeOf}
 use Rattle.rules.proofs.Tests.{both-true, both-none, either-false}
 use Rattle.rules.proofs.OrderLaws.{InTurn}
-use Rattle.order.specs.State.{stateAfter, stateOf}
-use Rattle.order.proofs.States.{state-snoc}
+use Rattle.states.specs.State.{stateAfter, stateOf}
+use Rattle.states.proofs.States.{state-snoc}
 use Rattle.fates.specs.Fate.{Ordered, endingOf}
 use Rattle.fates.proofs.Turns.{AllTold, told-next, own-going, turn-at, passes-at}
 

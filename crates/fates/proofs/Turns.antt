@@ -18,8 +18,8 @@ use Rattle.rules.specs.Shape.{both, isShaped, isBare}
 use Rattle.rules.specs.Order.{isBegin, begun, isOpen, inOrder, neverFull}
 use Rattle.rules.proofs.Tests.{both-true}
 use Rattle.rules.proofs.OrderLaws.{Passes, InTurn, in-turn}
-use Rattle.order.specs.State.{stateOf}
-use Rattle.order.proofs.States.{Told, told-none, told-snoc, open-is, ordered-is, checkpoint-zero}
+use Rattle.states.specs.State.{stateOf}
+use Rattle.states.proofs.States.{Told, told-none, told-snoc, open-is, ordered-is, checkpoint-zero}
 use Rattle.fates.specs.Fate.{Ordered}
 
 -- after the entries es, the state tells of every transaction

@@ -15,7 +15,7 @@ use Rattle.wal.specs.declared.EntryView.{EntryView}
 use Rattle.wal.proofs.WalkLaws.{EntryAt}
 use Rattle.wal.proofs.Prefix.{stands-at}
 use Rattle.wal.proofs.Places.{old-length, new-length}
-use Rattle.order.proofs.Shapes.{insert-shaped, delete-shaped, update-shaped}
+use Rattle.change.proofs.Shapes.{insert-shaped, delete-shaped, update-shaped}
 use Rattle.rules.specs.Shape.{isChange, isChanging, isImage, isKeyed, isShaped, same, stamped, beforeOf, afterOf}
 use Rattle.rules.proofs.Tests.{both-true}
 use Rattle.rules.proofs.ImageLaws.{image}

@@ -1,8 +1,7 @@
-pub mod States
-pub mod Clashes
-pub mod Split
-pub mod Back
-pub mod HintLaws
-pub mod Shapes
-pub mod Basics
-pub mod FirstLaws
+pub mod Gathering
+pub mod Tellings
+pub mod Wrongs
+pub mod Scans
+pub mod Joining
+pub mod Passing
+pub mod Turnings

@@ -1,5 +1,4 @@
-pub mod State
-pub mod Clash
-pub mod Hints
 pub mod First
-pub mod Walking
+pub mod Scanning
+pub mod Blocks
+pub mod Turns

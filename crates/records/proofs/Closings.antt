@@ -20,8 +20,8 @@ use Rattle.rules.specs.Recover.{outcomeOf, recordOf}
 use Rattle.rules.proofs.Tests.{both-none}
 use Rattle.rules.proofs.OrderLaws.{Passes, numbered, InTurn}
 use Rattle.rules.proofs.Counts.{count-append}
-use Rattle.order.specs.State.{stateAfter, stateOf}
-use Rattle.order.proofs.States.{state-snoc, changing, none-changed, checkpoint-zero}
+use Rattle.states.specs.State.{stateAfter, stateOf}
+use Rattle.states.proofs.States.{state-snoc, changing, none-changed, checkpoint-zero}
 use Rattle.fates.specs.Fate.{Ordered, endingOf}
 use Rattle.fates.proofs.Turns.{AllTold, told-next, own-state, own-going, turn-at, passes-at}
 use Rattle.fates.proofs.Endings.{fate-is}

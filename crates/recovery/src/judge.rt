@@ -4,6 +4,7 @@ ghost use Rattle.crc32c.specs.Tables.{Tables};
 ghost use Rattle.order.specs.First.{fullOf};
 ghost use Rattle.recovery.specs.Judgement.{Judgement, Gathered};
 use crate::Judged;
+use checks::PLACES;
 use checks::inner::judge_log;
 use checks::inner::judge_pages;
 use checks::inner::stray;
@@ -69,7 +70,8 @@ pub fn judge(
     ensures { λ r. ⌜ Gathered (now (pages .entry)) (now (log .entry)) (now (lists .exit)) (now (fronts .exit)) (now (space .exit)) r ⌝ }
 {
     // made before any test: docs/DECISIONS.md says why
-    let mut hints = [32u32; 16384];
+    let mut begins = [0u32; PLACES];
+    let mut ends = [0u32; PLACES];
     if size_wrong(pages) {
         return refusal(PAGE_AREA, 0);
     }
@@ -84,7 +86,8 @@ pub fn judge(
         lasts,
         lists,
         space,
-        &mut hints,
+        &mut begins,
+        &mut ends,
     );
     let w = found.walked;
     if w.number != 0 {

@@ -15,8 +15,8 @@ use Rattle.rules.specs.Shape.{both, either, isChanging}
 use Rattle.rules.specs.Order.{one, count, is, isBegin, neverFull}
 use Rattle.rules.proofs.OrderLaws.{Passes, numbered}
 use Rattle.rules.proofs.Counts.{count-append}
-use Rattle.order.specs.State.{stateAfter, stateFrom, stateOf}
-use Rattle.order.proofs.States.{state-snoc}
+use Rattle.states.specs.State.{stateAfter, stateFrom, stateOf}
+use Rattle.states.proofs.States.{state-snoc}
 use Rattle.fates.specs.Fate.{Ordered}
 use Rattle.fates.proofs.Turns.{AllTold, own-state, held-at}
 use Rattle.fates.proofs.Endings.{of-other}

@@ -16,8 +16,8 @@ use Rattle.rules.specs.Order.{one, count, is, isBegin}
 use Rattle.rules.specs.Recover.{recordOf, recordsOf}
 use Rattle.rules.proofs.OrderLaws.{Passes, numbered}
 use Rattle.rules.proofs.Counts.{count-snoc, records-append}
-use Rattle.order.proofs.States.{changing}
-use Rattle.order.specs.State.{stateOf}
+use Rattle.states.proofs.States.{changing}
+use Rattle.states.specs.State.{stateOf}
 use Rattle.fates.proofs.Turns.{AllTold, own-state}
 use Rattle.tally.specs.Flat.{four, flat, flatAfter}
 use Rattle.tally.specs.Filling.{Has, appended, marked, Ready, Entered, begins, stays, marks}

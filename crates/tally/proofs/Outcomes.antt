@@ -17,7 +17,7 @@ use Rattle.rules.specs.Recover.{outcomeOf, transactions}
 use Rattle.rules.proofs.Tests.{either-none}
 use Rattle.rules.proofs.OrderLaws.{Passes, numbered}
 use Rattle.rules.proofs.Counts.{count-append, transactions-sum}
-use Rattle.order.specs.State.{stateOf}
+use Rattle.states.specs.State.{stateOf}
 use Rattle.fates.specs.Fate.{Ordered}
 use Rattle.fates.proofs.Turns.{AllTold, own-state, own-going, held-at}
 use Rattle.fates.proofs.Endings.{any-append, of-other, unended, outcome-unended}

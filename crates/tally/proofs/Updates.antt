@@ -14,8 +14,8 @@ use Rattle.rules.specs.Order.{one, count}
 use Rattle.rules.specs.Recover.{outcomeOf, recordOf}
 use Rattle.rules.proofs.OrderLaws.{Passes, numbered}
 use Rattle.rules.proofs.Counts.{count-append}
-use Rattle.order.specs.State.{stateOf}
-use Rattle.order.proofs.States.{changing, none-changed, checkpoint-zero}
+use Rattle.states.specs.State.{stateOf}
+use Rattle.states.proofs.States.{changing, none-changed, checkpoint-zero}
 use Rattle.fates.proofs.Turns.{AllTold, own-state}
 use Rattle.tally.specs.Flat.{four}
 use Rattle.tally.proofs.Outcomes.{outcome-plain, outcome-other, outcome-own, outcome-commit, outcome-rollback}

@@ -4,6 +4,7 @@ pub mod WalkLaws
 pub mod Backward
 pub mod Places
 pub mod Prefix
+pub mod Known
 pub mod Cuts
 pub mod Files
 pub mod Endings

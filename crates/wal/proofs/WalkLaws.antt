@@ -51,7 +51,7 @@ module _ {v : EntryView} where
   past true n h = absurd (n h)
   past false n h = (refl, h)
 
-  into : (b : Bool) {x y : Reading} → (y ≡ Whole v → ⊥) → pick b x y ≡ Whole v → (b ≡ true) × (x ≡ Whole v)
+  pub into : (b : Bool) {x y : Reading} → (y ≡ Whole v → ⊥) → pick b x y ≡ Whole v → (b ≡ true) × (x ≡ Whole v)
   into true n h = (refl, h)
   into false n h = absurd (n h)
 

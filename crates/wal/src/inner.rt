@@ -8,7 +8,7 @@ ghost use Rattle.crc32c.specs.Tables.{Tables};
 ghost use Rattle.wal.specs.Read.{fields, allZero, innerAt, wholeAt, readAt, readBefore, lengthBefore};
 ghost use Rattle.wal.specs.Walk.{endOf, endingOf, endingNumber};
 ghost use Rattle.wal.specs.declared.Reading.the-variants.{Damage};
-ghost use Rattle.wal.specs.Prefix.{Stands, Met, entryIn};
+ghost use Rattle.wal.specs.Prefix.{Stands, Met, entryIn, knownAt, knownBefore};
 use crate::Before;
 use crate::EntryView;
 use crate::FIRST;
@@ -215,6 +215,17 @@ pub fn standing(log: &[u8], place: usize) -> EntryView
     fields_at(log, place, n, key_len, old_len, new_len)
 }
 
+// The entry that is known to stand at place where the walk goes on to end, and no checksum.
+pub fn known_at(log: &[u8], place: usize, end: usize) -> Reading
+    requires { ⌜ (place < end → Stands (now log) place) ⌝ }
+    ensures { λ r. ⌜ r ≡ knownAt (now (log .entry)) place end ⌝ }
+{
+    if end <= place {
+        return Reading::End;
+    }
+    Reading::Whole(standing(log, place))
+}
+
 // The place of the entry that is known to end at place.
 pub fn place_before(log: &[u8], place: usize) -> usize
     requires { ⌜ Met (now log) place ⌝ }
@@ -222,4 +233,15 @@ pub fn place_before(log: &[u8], place: usize) -> usize
     ensures { λ r. ⌜ r ≡ place - lengthBefore (now (log .entry)) place ⌝ }
 {
     place - u32_at(log, place - 4) as usize
+}
+
+// The entry that is known to end at place, unless that is where the walk began, and no checksum.
+pub fn known_before(log: &[u8], place: usize) -> Before
+    requires { ⌜ Met (now log) place ⌝ }
+    ensures { λ r. ⌜ r ≡ knownBefore (now (log .entry)) place ⌝ }
+{
+    if place <= FIRST {
+        return Before::Nothing;
+    }
+    Before::Found(standing(log, place_before(log, place)))
 }

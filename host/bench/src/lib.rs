@@ -1,4 +1,6 @@
-//! Unproved checksums that the benchmarks measure the proved one beside, and their way to take times.
+//! Unproved checksums that the benchmarks measure the proved one beside, their way to take times, and the logs that recovery is measured on.
+pub mod workload;
+
 use std::hint::black_box;
 use std::time::Instant;
 
@@ -96,4 +98,11 @@ pub fn best<T>(passes: usize, mut pass: impl FnMut() -> T) -> f64 {
             start.elapsed().as_secs_f64()
         })
         .fold(f64::INFINITY, f64::min)
+}
+
+/// Seconds that a call takes.
+pub fn seconds<T>(call: impl FnOnce() -> T) -> f64 {
+    let start = Instant::now();
+    black_box(call());
+    start.elapsed().as_secs_f64()
 }

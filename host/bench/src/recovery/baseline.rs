@@ -6,7 +6,7 @@ use std::process::Command;
 
 use bench::machine;
 
-use crate::workload::Size;
+use bench::workload::Size;
 
 /// Copies the bytes to the front of a buffer and sums the copy.
 pub fn copy_and_sum(from: &[u8], to: &mut [u8]) -> u32 {

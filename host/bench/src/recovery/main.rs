@@ -2,17 +2,15 @@
 //! beside SQLite: everything in one run, best of five.
 
 mod baseline;
-mod workload;
 
 use std::hint::black_box;
-use std::time::Instant;
 
-use bench::has_instruction;
+use bench::workload::{Input, Size, Workload, MAGIC, SIZES, WORKLOADS};
+use bench::{has_instruction, seconds};
 use library::{Answer, RECORD_NUMBERS};
 use oracle::Record;
 
 use baseline::{copy_and_sum, sqlite, Sqlite};
-use workload::{Input, Size, Workload, MAGIC, SIZES, WORKLOADS};
 
 const RUNS: usize = 5;
 
@@ -58,13 +56,6 @@ fn check(input: &Input) -> Answer {
         "the two leave other records"
     );
     answer
-}
-
-/// Seconds that a call takes.
-fn seconds<T>(call: impl FnOnce() -> T) -> f64 {
-    let start = Instant::now();
-    black_box(call());
-    start.elapsed().as_secs_f64()
 }
 
 /// The input of a workload at a size, once both programs have agreed on it.

@@ -1,7 +1,7 @@
 -- `is_other` meets its contract: where it says no, the page is untouched or its type was found to be 1.
 -- Assumes nothing.
 use borrow.Author.Tests.{eqb-true}
-use Rattle.order.proofs.Shapes.{not-false}
+use borrow.Author.Tests.{not-false}
 use borrow.Author.Needs.{needs}
 use Rattle.checks.proofs.inner.is_other.Statement.{statement}
 use Rattle.checks.proofs.inner.is_other.Tie as tie

@@ -8,7 +8,7 @@ use Rattle.wal.specs.Prefix.{said}
 use Rattle.page.specs.Layout.{pageBytes, dataType}
 use Rattle.rules.specs.Shape.{isChange, isChanging, pageOf}
 use Rattle.rules.proofs.Tests.{not-true}
-use Rattle.order.proofs.Shapes.{not-false}
+use borrow.Author.Tests.{not-false}
 use Rattle.cells.proofs.Keys.{KeyAt, key-at}
 use Rattle.checks.proofs.StrayLaws.{no-stray, stray-beyond, stray-type}
 use borrow.Author.Needs.{needs}

@@ -7,7 +7,7 @@ use native.Mathlib.Omega.{arith}
 use Rattle.wal.specs.Prefix.{said}
 use Rattle.rules.specs.Shape.{isChange, isChanging, pageOf, slotOf}
 use Rattle.rules.proofs.Tests.{not-true}
-use Rattle.order.proofs.Shapes.{not-false}
+use borrow.Author.Tests.{not-false}
 use Rattle.cells.proofs.Keys.{KeyAt, key-at}
 use Rattle.clash.proofs.GroupLaws.{no-change-cell, read-low, read-high, read-page, read-own}
 use Rattle.clash.proofs.inner.cell_for.Statement.{statement}

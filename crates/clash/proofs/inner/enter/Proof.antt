@@ -3,7 +3,7 @@
 use mathlib.Core.Path.{_≡_, sym, ap, _∙_}
 use borrow.Author.Needs.{needs}
 use Rattle.wal.specs.Prefix.{said}
-use Rattle.order.specs.State.{stateAfter}
+use Rattle.states.specs.State.{stateAfter}
 use Rattle.clash.proofs.OpenLaws.{opens-zero}
 use Rattle.clash.proofs.inner.enter.Statement.{statement}
 use Rattle.clash.proofs.inner.enter.Tie as tie

@@ -6,7 +6,7 @@ use borrow.Author.Needs.{needs}
 use lib.ListN.{getD}
 use native.Mathlib.Omega.{arith}
 use Rattle.rules.proofs.Tests.{not-true}
-use Rattle.order.proofs.Shapes.{not-false}
+use borrow.Author.Tests.{not-false}
 use Rattle.clash.specs.Open.{Open}
 use Rattle.clash.proofs.OpenLaws.{open-ended, open-ended2, open-absent, opens-same, opens-set, opens-set2}
 use Rattle.clash.proofs.inner.enter_ended.Statement.{statement}

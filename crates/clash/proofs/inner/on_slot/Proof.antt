@@ -6,8 +6,8 @@ use Rattle.wal.specs.Prefix.{said}
 use Rattle.wal.proofs.Prefix.{stands-at}
 use Rattle.rules.specs.Shape.{isChange, isChanging}
 use Rattle.rules.proofs.Tests.{not-true}
-use Rattle.order.proofs.Shapes.{not-false}
-use Rattle.order.proofs.Back.{said-kind}
+use borrow.Author.Tests.{not-false}
+use Rattle.states.proofs.Back.{said-kind}
 use Rattle.cells.proofs.Keys.{KeyAt, key-at}
 use Rattle.clash.proofs.NewestLaws.{off-none, off-page, on-page}
 use borrow.Author.Needs.{needs}

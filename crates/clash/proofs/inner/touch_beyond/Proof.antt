@@ -5,7 +5,7 @@ use Rattle.endian.specs.Numbers.{Bytes}
 use Rattle.wal.specs.Prefix.{said}
 use Rattle.rules.specs.Shape.{isChange, isChanging}
 use Rattle.rules.proofs.Tests.{not-true}
-use Rattle.order.proofs.Shapes.{not-false}
+use borrow.Author.Tests.{not-false}
 use Rattle.cells.proofs.Keys.{KeyAt, key-at}
 use Rattle.clash.proofs.VerdictLaws.{no-change-beyond, low-beyond, high-beyond}
 use borrow.Author.Needs.{needs}

@@ -4,7 +4,7 @@ use native.Mathlib.Omega.{arith}
 use borrow.Author.Needs.{needs}
 use Rattle.page.specs.Writer.{withSlot}
 use Rattle.rules.proofs.Tests.{not-true}
-use Rattle.order.proofs.Shapes.{not-false}
+use borrow.Author.Tests.{not-false}
 use Rattle.mend.proofs.Tuples.{lies-end, page-end, page-long, page-tuple, log-end, log-long, log-tuple, stamped-tuple}
 use Rattle.mend.proofs.inner.put_image.Statement.{statement}
 use Rattle.mend.proofs.inner.put_image.Tie as tie

@@ -13,7 +13,6 @@ use Rattle.rules.specs.Order.{logVerdict, lastLsn}
 use Rattle.rules.specs.Recover.{pagesFrom, strayFrom}
 use Rattle.order.specs.First.{fullOf}
 use Rattle.order.specs.declared.Walked.{Walked}
-use Rattle.order.proofs.HintLaws.{hints-first}
 use Rattle.checks.proofs.LogLaws.{header-fits}
 use Rattle.recovery.proofs.JudgeLaws.{header-ok, ordered-ok, judge-size, judge-pages, judge-stray, judge-tight, judge-done, stray-ok}
 use Rattle.recovery.proofs.Judging.{rises-ok, size-is, touched-ok, gathered-none, judged-refused, judged-log, log-ok, judged-all}
@@ -24,15 +23,15 @@ use Rattle.recovery.proofs.judge.judge.Tie as tie
 size-fine : (c : tie.Else1) → sizeWrong (c .before .before .before .before .args .pages .now) ≡ false
 size-fine c = sym (c .before .size-wrong .ensures) ∙ c .if1 .left
 
-log-fine : (c : tie.Else2) → let a = c .before .before .before .before .before .before .before .before .before .before .before .before .before .args in logVerdict (fullOf (a .bounded) (a .records)) (a .log .now) .number ≡ 0
+log-fine : (c : tie.Else2) → let a = c .before .before .before .before .before .before .before .before .before .before .before .before .before .before .args in logVerdict (fullOf (a .bounded) (a .records)) (a .log .now) .number ≡ 0
 log-fine c = log-ok (c .before .before .before .judge-log .ensures .0) (c .if2 .left)
 
-pages-fine : (c : tie.Else3) → let a = c .before .before .before .before .before .before .before .before .before .before .before .before .before .before .before .before .args in
+pages-fine : (c : tie.Else3) → let a = c .before .before .before .before .before .before .before .before .before .before .before .before .before .before .before .before .before .args in
     pagesFrom (a .magic) (a .floor .0) (lastLsn (entries (a .log .now))) (a .pages .now) (pagesIn (a .pages .now)) 0 .number ≡ 0
 pages-fine c =
     rw (← c .before .before .before .before .before .before .judge-log .ensures .0 .last (c .before .before .before .if2 .left)) (sym (ap (λ (v : Verdict). v .number) (c .before .before .judge-pages .ensures)) ∙ c .if3 .left)
 
-stray-fine : (c : tie.Else4) → let a = c .before .before .before .before .before .before .before .before .before .before .before .before .before .before .before .before .before .before .before .before .args in
+stray-fine : (c : tie.Else4) → let a = c .before .before .before .before .before .before .before .before .before .before .before .before .before .before .before .before .before .before .before .before .before .args in
     strayFrom (a .pages .now) (entries (a .log .now)) first .number ≡ 0
 stray-fine c =
     stray-ok _ _ (c .before .before .stray .result) (c .before .before .before .before .before .before .before .before .before .before .judge-log .result .walked .place) (omega (arith, c .if4 .left)) (c .before .before .stray .ensures)
@@ -45,15 +44,15 @@ returns c =
 
 judge-log-requires : tie.Need-judge-log-requires
 judge-log-requires c κs =
-    let e = c .before .before .before .before .before in
-    (e .before .before .before .before .pre, (size-is _ (size-fine e) .1, hints-first _))
+    let e = c .before .before .before .before .before .before in
+    (e .before .before .before .before .pre, size-is _ (size-fine e) .1)
 
 returns-2 : tie.Need-returns-2
 returns-2 c =
     let t = c .before in
     let j = t .before .before .before in
     let e = c .refused .ensures in
-    (rw e (judged-log _ _ _ _ _ _ _ _ _ (j .judge-log .ensures .0) (size-fine (j .before .before .before .before .before .before)) (t .if2 .taken)), gathered-none (λ z. t .if2 .taken (sym (ap (λ (w : Walked). w .number) e) ∙ z)))
+    (rw e (judged-log _ _ _ _ _ _ _ _ _ (j .judge-log .ensures .0) (size-fine (j .before .before .before .before .before .before .before)) (t .if2 .taken)), gathered-none (λ z. t .if2 .taken (sym (ap (λ (w : Walked). w .number) e) ∙ z)))
 
 returns-3 : tie.Need-returns-3
 returns-3 c =
@@ -63,7 +62,7 @@ returns-3 c =
     let k = j .judge-log .ensures .0 .last (l .if2 .left) in
     let e = c .refusal2 .ensures in (
       rw e (judged-refused _ _ _ _ _ _ _ _ _ (c .before .if3 .taken)
-          (judge-pages _ _ _ _ _ (size-fine (j .before .before .before .before .before .before)) (log-fine l) _ (rw (← k) (p .judge-pages .ensures)) (c .before .if3 .taken))),
+          (judge-pages _ _ _ _ _ (size-fine (j .before .before .before .before .before .before .before)) (log-fine l) _ (rw (← k) (p .judge-pages .ensures)) (c .before .if3 .taken))),
       gathered-none (λ z. c .before .if3 .taken (sym (ap (λ (w : Walked). w .number) e) ∙ z)),
     )
 
@@ -73,7 +72,7 @@ stray-requires c κs =
     let j = l .before .before .before in
     let z = l .if2 .left in
     let e = j .judge-log .ensures .0 .end z in
-    let y = size-is _ (size-fine (j .before .before .before .before .before .before)) in
+    let y = size-is _ (size-fine (j .before .before .before .before .before .before .before)) in
     ((sym e, refl, y .1), (rw e (rises-ok _ (ordered-ok _ _ (log-fine l))), (j .judge-log .ensures .0 .begin z, rw e (j .judge-log .ensures .1 .1 z))))
 
 returns-4 : tie.Need-returns-4
@@ -85,7 +84,7 @@ returns-4 c =
     let e = c .refusal3 .ensures in
     let n : c .refusal3 .result .walked .number ≡ 13 = ap (λ (w : Walked). w .number) e in (
       rw e (judged-refused _ _ _ _ _ _ _ 13 _ (λ z. absurd (omega arith))
-          (judge-stray _ _ _ _ _ (size-fine (j .before .before .before .before .before .before)) (log-fine l) (pages-fine p) _ _ (t .if4 .taken) (t .before .before .stray .ensures))),
+          (judge-stray _ _ _ _ _ (size-fine (j .before .before .before .before .before .before .before)) (log-fine l) (pages-fine p) _ _ (t .if4 .taken) (t .before .before .stray .ensures))),
       gathered-none (λ z. omega arith),
     )
 
@@ -96,7 +95,7 @@ gather-requires c κs =
     let j = l .before .before .before in
     let z = l .if2 .left in
     let v = log-fine l in
-    let y = size-is _ (size-fine (j .before .before .before .before .before .before)) in
+    let y = size-is _ (size-fine (j .before .before .before .before .before .before .before)) in
     (ordered-ok _ _ v, (j .judge-log .ensures .1 .0 z, (sym (j .judge-log .ensures .0 .end z), header-fits _ (header-ok _ _ v), y .1)))
 
 tight-requires : tie.Need-tight-requires
@@ -108,7 +107,7 @@ tight-requires c κs =
     let j = l .before .before .before in
     let z = l .if2 .left in
     let v = log-fine l in
-    let y = size-is _ (size-fine (j .before .before .before .before .before .before)) in
+    let y = size-is _ (size-fine (j .before .before .before .before .before .before .before)) in
     (ordered-ok _ _ v, (j .judge-log .ensures .0 .begin z, (j .judge-log .ensures .1 .0 z, (g .gather .ensures .0, (touched-ok _ _ _ _ _ _ refl (pages-fine p) (stray-fine q), (refl, y .1, header-fits _ (header-ok _ _ v)))))))
 
 returns-5 : tie.Need-returns-5
@@ -121,7 +120,7 @@ returns-5 c =
     let e = c .refusal4 .ensures in
     let n : c .refusal4 .result .walked .number ≡ 14 = ap (λ (w : Walked). w .number) e in (
       rw e (judged-refused _ _ _ _ _ _ _ 14 _ (λ z. absurd (omega arith))
-          (judge-tight _ _ _ _ _ (size-fine (j .before .before .before .before .before .before)) (log-fine l) (pages-fine p) (stray-fine q) _ (t .if5 .taken) (t .before .tight .ensures .1))),
+          (judge-tight _ _ _ _ _ (size-fine (j .before .before .before .before .before .before .before)) (log-fine l) (pages-fine p) (stray-fine q) _ (t .if5 .taken) (t .before .tight .ensures .1))),
       gathered-none (λ z. omega arith),
     )
 
@@ -134,7 +133,7 @@ returns-6 c =
     let j = l .before .before .before in
     let k = j .judge-log .ensures in (
       judged-all _ _ _ _ _ _ _ _ _ (k .0) (l .if2 .left) refl
-          (judge-done _ _ _ _ _ (size-fine (j .before .before .before .before .before .before)) (log-fine l) (pages-fine p) (stray-fine q) _ (omega (arith, c .if5 .left)) (c .before .tight .ensures .1)),
+          (judge-done _ _ _ _ _ (size-fine (j .before .before .before .before .before .before .before)) (log-fine l) (pages-fine p) (stray-fine q) _ (omega (arith, c .if5 .left)) (c .before .tight .ensures .1)),
       record { begin = k .1 .0; listed = λ z. g .gather .ensures .0; counts = λ z. g .gather .ensures .1 },
     )
 

@@ -1,0 +1,3 @@
+pub mod Newest
+pub mod Region
+pub mod Beyond

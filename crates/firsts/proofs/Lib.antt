@@ -1,0 +1,10 @@
+pub mod FirstLaws
+pub mod Judging
+pub mod OrderVerdict
+pub mod Orders
+pub mod Outcomes
+pub mod Slots
+pub mod Clashes
+pub mod Log
+pub mod Walks
+pub mod Whole

@@ -1,0 +1,4 @@
+pub mod First
+pub mod Judge
+pub mod Tests
+pub mod Clash

@@ -1,0 +1,15 @@
+pub mod Storing
+pub mod Orders
+pub mod Permuting
+pub mod Parting
+pub mod Sorting
+pub mod Finding
+pub mod Telling
+pub mod Walking
+pub mod Filling
+pub mod Begins
+pub mod Settling
+pub mod Flattening
+pub mod Blocks
+pub mod Holding
+pub mod Stages

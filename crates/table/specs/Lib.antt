@@ -1,0 +1,4 @@
+pub mod Flat
+pub mod Rows
+pub mod Telling
+pub mod Holding
