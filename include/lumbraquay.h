@@ -5,9 +5,13 @@
  * None allocates, does input or output, keeps a pointer or has state of its own, so calls on different buffers may run
  * at the same time. Each needs under 1 MiB of stack.
  *
- * Buffers. A buffer is a pointer and its length: in bytes, or for table, rows and out in numbers. Where the length is 0
+ * Buffers. A buffer is a pointer and its length: in bytes, or for branches, owners, table, rows and out in numbers. Where the length is 0
  * the pointer is not looked at and may be NULL. A buffer that is written (pages of lq_recover, table, rows, map,
  * area, out) overlaps no other. A mark is a pointer to 16 bytes, never NULL.
+ *
+ * Branches. Tables and pages may belong to branches, which share the files. branches lists the tables: pairs of numbers,
+ * a table id and its branch; of an id listed twice the first pair counts, and an odd last number is no pair. owners has
+ * one number a page, its branch; a page past its end has none. Any number is a branch.
  *
  * Answers. A function writes its answer to out, one number after another in the order of the names below, but no more
  * than out_len of them; what out has behind them stays. Later versions may add numbers at the end of an answer and
@@ -28,7 +32,7 @@ extern "C" {
 
 /* The version of this interface. It rises where callers have to be compiled anew: a prototype has changed, or the
  * numbers of a record or of a row. An answer that grows at its end leaves it as it is. */
-#define LQ_VERSION 1
+#define LQ_VERSION 2
 
 /* The version that the library has: LQ_VERSION, where header and library belong together. */
 uint32_t lq_version(void);
@@ -38,9 +42,9 @@ uint32_t lq_version(void);
 #define LQ_LOG_LIMIT_BYTES 16777216 /* a longer log is refused by 2 */
 
 /* The refusals: number, name and meaning of each. The first that holds in this order is given: 1, 2, 3; then entry by
- * entry 4 to 10 in turn; then page by page 11, 17, 18, 19 and 12 in turn; then 13, the earliest entry; then 14, the
- * lowest page; then 15 or 16. 34 to 38 are given of a catalog payload alone, 27 to 33 of a summary. The place of 4 to 10
- * and 13 is the entry's offset in the log; of 11, 12, 14, 17 and 18 the page's index; of 19 the offset in the pages of
+ * entry 4 to 10 in turn; then page by page 11, 17, 18, 19 and 12 in turn; then 13, the earliest entry; then 21, the
+ * earliest entry; then 14, the lowest page; then 15 or 16. 34 to 38 are given of a catalog payload alone, 27 to 33 of a summary. The place of 4 to 10,
+ * 13 and 21 is the entry's offset in the log; of 11, 12, 14, 17 and 18 the page's index; of 19 the offset in the pages of
  * what breaks the rule, 16,384 x index + 10 for an item count over 4,080, + 32 for the free start, + 34 for the free
  * end, + 64 + 4 x k for slot k; else 0. A summary is refused at its first number at fault, by the lowest of 28 to 32
  * that fits it, then by 33; the place is the offset in the summary. */
@@ -66,6 +70,7 @@ uint32_t lq_version(void);
     X(17, LQ_PAGE_ID, "a page has another id than its index") \
     X(18, LQ_PAGE_CHECKSUM, "a page's checksum is not that of its body") \
     X(19, LQ_PAGE_SLOTS, "a data page breaks a rule of slots: its item count, free start, free end or a slot is wrong") \
+    X(21, LQ_WRONG_BRANCH, "a change whose table and page do not belong to one and the same branch") \
     X(27, LQ_SUMMARY_AREA, "the lent area is too short for the summary") \
     X(28, LQ_SUMMARY_ENDS_EARLY, "a summary ends before a number that it must have") \
     X(29, LQ_SUMMARY_SPELLING, "a number of a summary has more groups than the fewest, or over 64 bits") \
@@ -166,12 +171,12 @@ enum lq_verify_answer { LQ_VERIFY_NUMBER = 0, LQ_VERIFY_PLACE = 1 };
 #define LQ_VERIFY_NUMBERS 2
 
 /* Recovers the pages by the log. floor is an LSN up to which all is known to be flushed, 0 where nothing is known.
- * Refuses 1 to 14 and 17 to 19. Pages that the log changes are written anew in place, the others keep every byte. A run
+ * Refuses 1 to 14, 17 to 19 and 21. Pages that the log changes are written anew in place, the others keep every byte. A run
  * that was broken off between pages may simply be repeated.
  * table takes table_len / LQ_RECORD_NUMBERS records, one for each Begin, in log order; later numbers stay. A log of n
  * bytes has at most (n - 32) / 43 Begins. */
-void lq_recover(uint64_t magic, uint64_t floor, uint8_t *pages, size_t pages_len, const uint8_t *log, size_t log_len,
-                uint64_t *table, size_t table_len, uint64_t *out, size_t out_len);
+void lq_recover(uint64_t magic, uint64_t floor, const uint64_t *branches, size_t branches_len, const uint64_t *owners,
+                size_t owners_len, uint8_t *pages, size_t pages_len, const uint8_t *log, size_t log_len, uint64_t *table, size_t table_len, uint64_t *out, size_t out_len);
 
 enum lq_recover_answer {
     LQ_RECOVER_NUMBER = 0,
@@ -210,8 +215,8 @@ enum lq_record {
 enum lq_outcome { LQ_UNENDED = 0, LQ_COMMITTED = 1, LQ_ROLLED_BACK = 2 };
 
 /* One row as recovery would leave it, without recovering. Refuses as lq_recover does but for 10, then 15. */
-void lq_read_row(uint64_t magic, uint64_t floor, const uint8_t *pages, size_t pages_len, const uint8_t *log,
-                 size_t log_len, uint64_t page, uint16_t slot, uint64_t *out, size_t out_len);
+void lq_read_row(uint64_t magic, uint64_t floor, const uint64_t *branches, size_t branches_len, const uint64_t *owners,
+                 size_t owners_len, const uint8_t *pages, size_t pages_len, const uint8_t *log, size_t log_len, uint64_t page, uint16_t slot, uint64_t *out, size_t out_len);
 
 /* An empty slot, or a page not of type 1, is all 0. */
 enum lq_read_row_answer {
@@ -231,10 +236,10 @@ enum lq_read_row_answer {
 /* Where a row's payload stands. */
 enum lq_source { LQ_FROM_NOWHERE = 0, LQ_FROM_LOG = 1, LQ_FROM_PAGES = 2 };
 
-/* The first visible row at or after a slot of a page: one with deleted byte 0 and xmax 0, on a page of type 1. Refuses
- * as lq_verify does: each call checks every page. */
-void lq_next_visible(uint64_t magic, const uint8_t *pages, size_t len, uint64_t page, uint16_t slot, uint64_t *out,
-                     size_t out_len);
+/* The first visible row at or after a slot of a page: one with deleted byte 0 and xmax 0, on a page of type 1 that
+ * belongs to the branch. Refuses as lq_verify does: each call checks every page. */
+void lq_next_visible(uint64_t magic, const uint8_t *pages, size_t len, const uint64_t *owners, size_t owners_len,
+                     uint64_t branch, uint64_t page, uint16_t slot, uint64_t *out, size_t out_len);
 
 /* None is all 0. */
 enum lq_next_visible_answer {
@@ -248,11 +253,12 @@ enum lq_next_visible_answer {
 };
 #define LQ_NEXT_VISIBLE_NUMBERS 7
 
-/* The visible rows from a slot of a page on, as many as rows has room for: rows_len / LQ_ROW_NUMBERS; later numbers
+/* The visible rows of a branch from a slot of a page on, as many as rows has room for: rows_len / LQ_ROW_NUMBERS; later numbers
  * stay. Refuses as lq_verify does: each call checks every page, so lend room for many. To go on, call again from the
  * page and slot that are given back. */
-void lq_list_visible(uint64_t magic, const uint8_t *pages, size_t len, uint64_t page, uint16_t slot, uint64_t *rows,
-                     size_t rows_len, uint64_t *out, size_t out_len);
+void lq_list_visible(uint64_t magic, const uint8_t *pages, size_t len, const uint64_t *owners, size_t owners_len,
+                     uint64_t branch, uint64_t page, uint16_t slot, uint64_t *rows, size_t rows_len, uint64_t *out,
+                     size_t out_len);
 
 enum lq_list_visible_answer {
     LQ_LIST_VISIBLE_NUMBER = 0,
@@ -265,8 +271,9 @@ enum lq_list_visible_answer {
 
 /* The cancelled rows from a slot of a page on: those that lq_list_visible passes over, with deleted byte 1 or an xmax
  * other than 0. Rows, answer and refusals are as there. */
-void lq_list_cancelled(uint64_t magic, const uint8_t *pages, size_t len, uint64_t page, uint16_t slot, uint64_t *rows,
-                       size_t rows_len, uint64_t *out, size_t out_len);
+void lq_list_cancelled(uint64_t magic, const uint8_t *pages, size_t len, const uint64_t *owners, size_t owners_len,
+                       uint64_t branch, uint64_t page, uint16_t slot, uint64_t *rows, size_t rows_len, uint64_t *out,
+                       size_t out_len);
 
 /* A row of a listing. */
 enum lq_row {

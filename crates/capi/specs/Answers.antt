@@ -32,7 +32,7 @@ use Rattle.summary.specs.declared.SummaryStep.{SummaryStep}
 
 -- lq_version
 abbrev pub version : ℕ
-version = 1
+version = 2
 
 -- what a function leaves in the array that it is lent for its numbers: the first of them, as many as fit, and the rest of the array as it was
 unfoldable pub given : List ℕ → List ℕ → List ℕ
@@ -97,8 +97,8 @@ rowNumbers (Refused v) = v .number ∷ v .place ∷ 0 ∷ 0 ∷ 0 ∷ 0 ∷ 0 �
 rowNumbers (At r) = 0 ∷ 0 ∷ 1 ∷ numbersOf r
 rowNumbers NoMore = 0 ∷ 0 ∷ 0 ∷ 0 ∷ 0 ∷ 0 ∷ 0 ∷ []
 
-unfoldable pub nextVisibleNumbers : ℕ → List ℕ → ℕ → ℕ → List ℕ
-nextVisibleNumbers magic pages page slot = rowNumbers (nextRow magic pages page slot)
+unfoldable pub nextVisibleNumbers : ℕ → List ℕ → List ℕ → ℕ → ℕ → ℕ → List ℕ
+nextVisibleNumbers magic pages owners branch page slot = rowNumbers (nextRow magic pages owners branch page slot)
 
 -- lq_list_visible, lq_list_cancelled: number, place, rows given, page and slot to go on from
 abbrev pub listNumbers : RowList → List ℕ

@@ -1,4 +1,5 @@
 // The C interface: see include/lumbraquay.h. Every function is total, and each gives its numbers by `give`.
+ghost use Rattle.rules.specs.Branch.{branches};
 ghost use Rattle.rules.specs.Lent.{lent};
 ghost use mathlib.Core.Path.{_≡_};
 ghost use Rattle.crc32c.specs.Crc.{crc32c as crcOf};
@@ -6,7 +7,7 @@ ghost use Rattle.wal.specs.Read.{found};
 ghost use Rattle.wal.specs.declared.Before.the-variants.{Found, Nothing};
 ghost use Prim.Native.Nat.{_/_};
 ghost use lib.ListN.{length};
-ghost use Rattle.page.specs.Rows.{visibleRows, cancelledRows, numbersPerRow, rowList, rowsAfter};
+ghost use Rattle.page.specs.Rows.{ofBranch, visibleRows, cancelledRows, numbersPerRow, rowList, rowsAfter};
 ghost use Rattle.page.specs.FreeMap.{mapAfter};
 ghost use Rattle.catalog.specs.TableRows.{rowOf, olderRowOf, writeAnswer, areaAfter};
 ghost use Rattle.catalog.specs.Search.{tableFound};
@@ -42,7 +43,7 @@ const UNUSED: u64 = 3;
 const DAMAGED: u64 = 4;
 
 // The version of the interface.
-const VERSION: u32 = 1;
+const VERSION: u32 = 2;
 
 // Puts numbers into a lent array, as many as fit.
 fn give(numbers: &[u64], out: &mut [u64])
@@ -190,12 +191,21 @@ fn row_numbers(next: NextRow) -> [u64; 7]
     }
 }
 
-// The first visible row at or after a slot of a page.
+// The first visible row on a page of a branch, at or after a slot of a page; owners has the branch of each page.
 #[no_mangle]
-pub extern "C" fn lq_next_visible(magic: u64, pages: &[u8], page: u64, slot: u16, out: &mut [u64])
-    ensures { λ _. ⌜ now (out .exit) ≡ given (nextVisibleNumbers magic (now (pages .entry)) page slot) (now (out .entry)) ⌝ }
+pub extern "C" fn lq_next_visible(
+    magic: u64,
+    pages: &[u8],
+    owners: &[u64],
+    branch: u64,
+    page: u64,
+    slot: u16,
+    out: &mut [u64],
+)
+    ensures { λ _. ⌜ now (out .exit) ≡ given (nextVisibleNumbers magic (now (pages .entry)) (now (owners .entry)) branch page slot) (now (out .entry)) ⌝ }
 {
-    let next = page::next_visible(magic, pages, PageNumber(page), slot as usize);
+    let from = PageNumber(page);
+    let next = page::next_visible(magic, pages, owners, branch, from, slot as usize);
     give(&row_numbers(next), out);
 }
 
@@ -208,20 +218,23 @@ fn list_numbers(l: RowList) -> [u64; 5]
     [v.number, v.place, l.count as u64, next.0, l.slot as u64]
 }
 
-// The visible rows at or after a slot of a page, four numbers each in rows, as many as they hold: number, place, how many, and the page and slot to go on from.
+// The visible rows of a branch at or after a slot of a page, four numbers each in rows, as many as they hold: number, place, how many, and the page and slot to go on from.
 #[no_mangle]
 pub extern "C" fn lq_list_visible(
     magic: u64,
     pages: &[u8],
+    owners: &[u64],
+    branch: u64,
     page: u64,
     slot: u16,
     rows: &mut [u64],
     out: &mut [u64],
 )
-    ensures { λ _. ⌜ now (out .exit) ≡ given (listNumbers (rowList magic (now (pages .entry)) (visibleRows (now (pages .entry))) page slot (length (now (rows .entry)) / numbersPerRow))) (now (out .entry)) ⌝ }
-    ensures { λ _. ⌜ now (rows .exit) ≡ rowsAfter magic (now (pages .entry)) (visibleRows (now (pages .entry))) page slot (now (rows .entry)) ⌝ }
+    ensures { λ _. ⌜ now (out .exit) ≡ given (listNumbers (rowList magic (now (pages .entry)) (ofBranch (now (owners .entry)) branch (visibleRows (now (pages .entry)))) page slot (length (now (rows .entry)) / numbersPerRow))) (now (out .entry)) ⌝ }
+    ensures { λ _. ⌜ now (rows .exit) ≡ rowsAfter magic (now (pages .entry)) (ofBranch (now (owners .entry)) branch (visibleRows (now (pages .entry)))) page slot (now (rows .entry)) ⌝ }
 {
-    let l = page::list_visible(magic, pages, PageNumber(page), slot as usize, rows);
+    let from = PageNumber(page);
+    let l = page::list_visible(magic, pages, owners, branch, from, slot as usize, rows);
     give(&list_numbers(l), out);
 }
 
@@ -230,15 +243,18 @@ pub extern "C" fn lq_list_visible(
 pub extern "C" fn lq_list_cancelled(
     magic: u64,
     pages: &[u8],
+    owners: &[u64],
+    branch: u64,
     page: u64,
     slot: u16,
     rows: &mut [u64],
     out: &mut [u64],
 )
-    ensures { λ _. ⌜ now (out .exit) ≡ given (listNumbers (rowList magic (now (pages .entry)) (cancelledRows (now (pages .entry))) page slot (length (now (rows .entry)) / numbersPerRow))) (now (out .entry)) ⌝ }
-    ensures { λ _. ⌜ now (rows .exit) ≡ rowsAfter magic (now (pages .entry)) (cancelledRows (now (pages .entry))) page slot (now (rows .entry)) ⌝ }
+    ensures { λ _. ⌜ now (out .exit) ≡ given (listNumbers (rowList magic (now (pages .entry)) (ofBranch (now (owners .entry)) branch (cancelledRows (now (pages .entry)))) page slot (length (now (rows .entry)) / numbersPerRow))) (now (out .entry)) ⌝ }
+    ensures { λ _. ⌜ now (rows .exit) ≡ rowsAfter magic (now (pages .entry)) (ofBranch (now (owners .entry)) branch (cancelledRows (now (pages .entry)))) page slot (now (rows .entry)) ⌝ }
 {
-    let l = page::list_cancelled(magic, pages, PageNumber(page), slot as usize, rows);
+    let from = PageNumber(page);
+    let l = page::list_cancelled(magic, pages, owners, branch, from, slot as usize, rows);
     give(&list_numbers(l), out);
 }
 
@@ -408,16 +424,18 @@ fn answer_numbers(a: Answer) -> [u64; 13]
 pub extern "C" fn lq_recover(
     magic: u64,
     floor: u64,
+    pairs: &[u64],
+    owners: &[u64],
     pages: &mut [u8],
     log: &[u8],
     table: &mut [u64],
     out: &mut [u64],
 )
-    ensures { λ _. ⌜ now (out .exit) ≡ given (answerNumbers (recoverFlat (lent magic floor (now (pages .entry)) (now (log .entry))) (now (table .entry)) .answer)) (now (out .entry)) ⌝ }
-    ensures { λ _. ⌜ now (pages .exit) ≡ recoverFlat (lent magic floor (now (pages .entry)) (now (log .entry))) (now (table .entry)) .pages ⌝ }
-    ensures { λ _. ⌜ now (table .exit) ≡ recoverFlat (lent magic floor (now (pages .entry)) (now (log .entry))) (now (table .entry)) .table ⌝ }
+    ensures { λ _. ⌜ now (out .exit) ≡ given (answerNumbers (recoverFlat (lent magic floor (branches (now (pairs .entry)) (now (owners .entry))) (now (pages .entry)) (now (log .entry))) (now (table .entry)) .answer)) (now (out .entry)) ⌝ }
+    ensures { λ _. ⌜ now (pages .exit) ≡ recoverFlat (lent magic floor (branches (now (pairs .entry)) (now (owners .entry))) (now (pages .entry)) (now (log .entry))) (now (table .entry)) .pages ⌝ }
+    ensures { λ _. ⌜ now (table .exit) ≡ recoverFlat (lent magic floor (branches (now (pairs .entry)) (now (owners .entry))) (now (pages .entry)) (now (log .entry))) (now (table .entry)) .table ⌝ }
 {
-    let a = recovery::recover_flat(magic, Lsn(floor), pages, log, table);
+    let a = recovery::recover_flat(magic, Lsn(floor), pairs, owners, pages, log, table);
     give(&answer_numbers(a), out);
 }
 
@@ -447,15 +465,26 @@ fn located_numbers(l: Located) -> [u64; 10]
 pub extern "C" fn lq_read_row(
     magic: u64,
     floor: u64,
+    pairs: &[u64],
+    owners: &[u64],
     pages: &[u8],
     log: &[u8],
     page: u64,
     slot: u16,
     out: &mut [u64],
 )
-    ensures { λ _. ⌜ now (out .exit) ≡ given (readRowNumbers (lent magic floor (now (pages .entry)) (now (log .entry))) page slot) (now (out .entry)) ⌝ }
+    ensures { λ _. ⌜ now (out .exit) ≡ given (readRowNumbers (lent magic floor (branches (now (pairs .entry)) (now (owners .entry))) (now (pages .entry)) (now (log .entry))) page slot) (now (out .entry)) ⌝ }
 {
-    let l = recovery::locate_row(magic, Lsn(floor), pages, log, PageNumber(page), slot);
+    let l = recovery::locate_row(
+        magic,
+        Lsn(floor),
+        pairs,
+        owners,
+        pages,
+        log,
+        PageNumber(page),
+        slot,
+    );
     give(&located_numbers(l), out);
 }
 

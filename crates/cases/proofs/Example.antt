@@ -26,13 +26,15 @@ use Rattle.rules.proofs.Slots.{changes-past}
 use Rattle.history.specs.History.{State, loggedIn, Finds, run, start, Honest}
 use Rattle.history.specs.Demand3.{History, Stands, HasFelt}
 use Rattle.history.proofs.OneSlot.{untouched}
-use Rattle.cases.specs.Build.{begins, inserts, updates, magic, page}
+use Rattle.cases.specs.Build.{begins, inserts, updates, twoBranches, magic, page}
 use Rattle.cases.specs.Starred.{a, b, c, noRecord}
 use Rattle.cases.specs.Example.{before, steps, whole, all, log, torn, roomy, completed, moment, stood}
 use Rattle.cases.proofs.Parts.{tuple-bytes, bare, insertable, updatable}
 use Rattle.cases.proofs.Area.{PageOk, EachPage, empty-ok, filled-ok, pages-in, page-at, slot-of, type-of}
 use Rattle.cases.proofs.Pages.{Says, ends-log, Computes, number}
 use Rattle.cases.proofs.Behind.{Behind, end-is, ending-is, says-file}
+use Rattle.rules.specs.Branch.{isForeign, together}
+use Rattle.page.specs.Branch.{belongs}
 use Rattle.rules.specs.Lent.{lent}
 
 -- ---- pages
@@ -65,16 +67,16 @@ pub encodable : AllEncodable whole
 encodable = (
   bare 1 1 7 (lit< tt) (lit< tt) (lit< tt),
   (
-    updatable 2 7 0 0 (lit< tt) (lit< tt) (tuple-bytes 29 1 (lit< tt)) (tuple-bytes 29 2 (lit< tt)) (lit≤ tt),
+    updatable 2 7 0 0 (lit< tt) (lit< tt) (lit< tt) (tuple-bytes 29 1 (lit< tt)) (tuple-bytes 29 2 (lit< tt)) (lit≤ tt),
     (
       bare 2 3 7 (lit< tt) (lit< tt) (lit< tt),
       (
         bare 1 4 8 (lit< tt) (lit< tt) (lit< tt),
         (
-          insertable 5 8 1 0 (lit< tt) (lit< tt) (tuple-bytes 29 1 (lit< tt)) (lit≤ tt),
+          insertable 5 8 1 0 (lit< tt) (lit< tt) (lit< tt) (tuple-bytes 29 1 (lit< tt)) (lit≤ tt),
           (
             bare 1 6 9 (lit< tt) (lit< tt) (lit< tt),
-            (updatable 7 9 0 0 (lit< tt) (lit< tt) (tuple-bytes 29 2 (lit< tt)) (tuple-bytes 29 3 (lit< tt)) (lit≤ tt), (insertable 8 9 0 1 (lit< tt) (lit< tt) (tuple-bytes 29 1 (lit< tt)) (lit≤ tt), tt)),
+            (updatable 7 9 0 0 (lit< tt) (lit< tt) (lit< tt) (tuple-bytes 29 2 (lit< tt)) (tuple-bytes 29 3 (lit< tt)) (lit≤ tt), (insertable 8 9 0 1 (lit< tt) (lit< tt) (lit< tt) (tuple-bytes 29 1 (lit< tt)) (lit≤ tt), tt)),
           ),
         ),
       ),
@@ -205,25 +207,25 @@ felt-completed = record { felt = λ i l d. each i l }
 
 -- ---- recovery accepts each
 
-pub computes : Computes (page 7 (c ∷ []) ∷ page 5 (a ∷ []) ∷ []) whole
-unfolding orderFrom faultAfter isKnown isShaped isBare isImage isKeyed same isChanging inOrder isOpen begun ended clashes sameSlot isOn numberAt numberOf bytesOf
-computes = record { pages = stood-ok; few = lit≤ tt; order = refl; onPage = (lit< tt, (lit< tt, (lit< tt, (lit< tt, (lit< tt, (lit< tt, (lit< tt, (lit< tt, tt)))))))) }
+pub computes : Computes twoBranches (page 7 (c ∷ []) ∷ page 5 (a ∷ []) ∷ []) whole
+unfolding orderFrom faultAfter isKnown isShaped isBare isImage isKeyed same isChanging inOrder isOpen begun ended clashes sameSlot isOn numberAt numberOf bytesOf isForeign together belongs
+computes = record { pages = stood-ok; few = lit≤ tt; order = refl; onPage = (lit< tt, (lit< tt, (lit< tt, (lit< tt, (lit< tt, (lit< tt, (lit< tt, (lit< tt, tt)))))))); own = (refl, (refl, (refl, (refl, (refl, (refl, (refl, (refl, tt)))))))) }
 
-computes-all : Computes (page 7 (c ∷ []) ∷ page 5 (a ∷ []) ∷ []) all
-unfolding orderFrom faultAfter isKnown isShaped isBare isImage isKeyed same isChanging inOrder isOpen begun ended clashes sameSlot isOn numberAt numberOf bytesOf
-computes-all = record { pages = stood-ok; few = lit≤ tt; order = refl; onPage = (lit< tt, (lit< tt, (lit< tt, (lit< tt, (lit< tt, (lit< tt, (lit< tt, (lit< tt, (lit< tt, tt))))))))) }
+computes-all : Computes twoBranches (page 7 (c ∷ []) ∷ page 5 (a ∷ []) ∷ []) all
+unfolding orderFrom faultAfter isKnown isShaped isBare isImage isKeyed same isChanging inOrder isOpen begun ended clashes sameSlot isOn numberAt numberOf bytesOf isForeign together belongs
+computes-all = record { pages = stood-ok; few = lit≤ tt; order = refl; onPage = (lit< tt, (lit< tt, (lit< tt, (lit< tt, (lit< tt, (lit< tt, (lit< tt, (lit< tt, (lit< tt, tt))))))))); own = (refl, (refl, (refl, (refl, (refl, (refl, (refl, (refl, (refl, tt))))))))) }
 
-pub ok : recoverOf (lent magic 7 stood torn) (replicate 8 noRecord) .answer .number ≡ 0
+pub ok : recoverOf (lent magic 7 twoBranches stood torn) (replicate 8 noRecord) .answer .number ≡ 0
 unfolding topOn topOf changes effectOn decided committed isOn isChanging numberAt numberOf bytesOf beforeOf afterOf
-ok = number 7 (page 7 (c ∷ []) ∷ page 5 (a ∷ []) ∷ []) torn whole (replicate 8 noRecord) refl says computes (lit≤ tt, (lit≤ tt, tt)) (λ t. lit≤ tt, (λ t. lit≤ tt, tt))
+ok = number 7 twoBranches (page 7 (c ∷ []) ∷ page 5 (a ∷ []) ∷ []) torn whole (replicate 8 noRecord) refl says computes (lit≤ tt, (lit≤ tt, tt)) (λ t. lit≤ tt, (λ t. lit≤ tt, tt))
 
-pub ok-roomy : recoverOf (lent magic 7 stood roomy) (replicate 8 noRecord) .answer .number ≡ 0
+pub ok-roomy : recoverOf (lent magic 7 twoBranches stood roomy) (replicate 8 noRecord) .answer .number ≡ 0
 unfolding topOn topOf changes effectOn decided committed isOn isChanging numberAt numberOf bytesOf beforeOf afterOf
-ok-roomy = number 7 (page 7 (c ∷ []) ∷ page 5 (a ∷ []) ∷ []) roomy whole (replicate 8 noRecord) refl says-roomy computes (lit≤ tt, (lit≤ tt, tt)) (λ t. lit≤ tt, (λ t. lit≤ tt, tt))
+ok-roomy = number 7 twoBranches (page 7 (c ∷ []) ∷ page 5 (a ∷ []) ∷ []) roomy whole (replicate 8 noRecord) refl says-roomy computes (lit≤ tt, (lit≤ tt, tt)) (λ t. lit≤ tt, (λ t. lit≤ tt, tt))
 
-pub ok-completed : recoverOf (lent magic 7 stood completed) (replicate 8 noRecord) .answer .number ≡ 0
+pub ok-completed : recoverOf (lent magic 7 twoBranches stood completed) (replicate 8 noRecord) .answer .number ≡ 0
 unfolding topOn topOf changes effectOn decided committed isOn isChanging numberAt numberOf bytesOf beforeOf afterOf
-ok-completed = number 7 (page 7 (c ∷ []) ∷ page 5 (a ∷ []) ∷ []) completed all (replicate 8 noRecord) refl says-completed computes-all (lit≤ tt, (lit≤ tt, tt)) (λ t. lit≤ tt, (λ t. lit≤ tt, tt))
+ok-completed = number 7 twoBranches (page 7 (c ∷ []) ∷ page 5 (a ∷ []) ∷ []) completed all (replicate 8 noRecord) refl says-completed computes-all (lit≤ tt, (lit≤ tt, tt)) (λ t. lit≤ tt, (λ t. lit≤ tt, tt))
 
 -- both endings are told: unused, at the place behind the last whole entry
 pub unused-roomy : (endingOf roomy ≡ Unused) × (endOf roomy ≡ 32 + sizesOf whole)

@@ -14,6 +14,8 @@ use Rattle.wal.specs.declared.Reading.the-variants.{Torn}
 use Rattle.wal.proofs.WalkLaws.{not-torn}
 use Rattle.wal.proofs.Encoding.{entries-log}
 use Rattle.page.specs.Layout.{dataType, pagesIn, pageAt, typeOf, slotAt}
+use Rattle.rules.specs.Branch.{isForeign, together}
+use Rattle.page.specs.Branch.{belongs}
 use Rattle.rules.specs.Lent.{lent}
 use Rattle.rules.specs.Shape.{isKnown, isChanging, isImage, same, isKeyed, isBare, isShaped, beforeOf, afterOf, isOn, effectOn, topOn, sameSlot}
 use Rattle.rules.specs.Order.{begun, ended, isOpen, inOrder, clashes, faultAfter, orderFrom}
@@ -27,7 +29,7 @@ use Rattle.history.specs.History.{Honest, start}
 use Rattle.history.specs.Demand3.{History, Mixed}
 use Rattle.history.specs.Night.{Run, ran}
 use Rattle.history.proofs.Night.{night}
-use Rattle.cases.specs.Build.{begins, updates, magic, page}
+use Rattle.cases.specs.Build.{begins, updates, oneBranch, magic, page}
 use Rattle.cases.specs.Starred.{a, b, noRecord}
 use Rattle.cases.specs.FileLength.{before, entries, steps, log, stood, RepeatsAnyhow}
 use Rattle.cases.proofs.Parts.{tuple-bytes, bare, updatable, bytes-log}
@@ -45,7 +47,7 @@ begin-ok : AllEncodable (begins 1 7 ∷ [])
 begin-ok = (bare 1 1 7 (lit< tt) (lit< tt) (lit< tt), tt)
 
 entries-ok : AllEncodable entries
-entries-ok = (begin-ok .0, (updatable 2 7 0 0 (lit< tt) (lit< tt) (tuple-bytes 29 1 (lit< tt)) (tuple-bytes 29 2 (lit< tt)) (lit≤ tt), tt))
+entries-ok = (begin-ok .0, (updatable 2 7 0 0 (lit< tt) (lit< tt) (lit< tt) (tuple-bytes 29 1 (lit< tt)) (tuple-bytes 29 2 (lit< tt)) (lit≤ tt), tt))
 
 before-ok : EachPage PageOk (page 0 (a ∷ []) ∷ [])
 before-ok = (filled-ok 0 1 (lit< tt) (lit< tt), tt)
@@ -84,31 +86,31 @@ torn-behind = record { is = refl; head = refl; reads = refl; never = λ v q. not
 says-torn : Says (fileOf log 206 0) (begins 1 7 ∷ [])
 says-torn = says-file torn-behind begin-ok (λ at. refl)
 
-computes-full : Computes (page 2 (b ∷ []) ∷ []) entries
-unfolding orderFrom faultAfter isKnown isShaped isBare isImage isKeyed same isChanging inOrder isOpen begun ended clashes sameSlot isOn numberAt numberOf bytesOf
-computes-full = record { pages = stood-ok; few = lit≤ tt; order = refl; onPage = (lit< tt, (lit< tt, tt)) }
+computes-full : Computes oneBranch (page 2 (b ∷ []) ∷ []) entries
+unfolding orderFrom faultAfter isKnown isShaped isBare isImage isKeyed same isChanging inOrder isOpen begun ended clashes sameSlot isOn numberAt numberOf bytesOf isForeign together belongs
+computes-full = record { pages = stood-ok; few = lit≤ tt; order = refl; onPage = (lit< tt, (lit< tt, tt)); own = (refl, (refl, tt)) }
 
-computes-torn : Computes (page 2 (b ∷ []) ∷ []) (begins 1 7 ∷ [])
-unfolding orderFrom faultAfter isKnown isShaped isBare isChanging inOrder isOpen begun ended clashes sameSlot isOn numberAt numberOf bytesOf
-computes-torn = record { pages = stood-ok; few = lit≤ tt; order = refl; onPage = (lit< tt, tt) }
+computes-torn : Computes oneBranch (page 2 (b ∷ []) ∷ []) (begins 1 7 ∷ [])
+unfolding orderFrom faultAfter isKnown isShaped isBare isChanging inOrder isOpen begun ended clashes sameSlot isOn numberAt numberOf bytesOf isForeign together belongs
+computes-torn = record { pages = stood-ok; few = lit≤ tt; order = refl; onPage = (lit< tt, tt); own = (refl, tt) }
 
 -- the first takes the Update back
-ok-full : recoverOf (lent magic 2 stood (fileOf log 206 2)) table .answer .number ≡ 0
+ok-full : recoverOf (lent magic 2 oneBranch stood (fileOf log 206 2)) table .answer .number ≡ 0
 unfolding topOn topOf changes effectOn decided committed isOn isChanging numberAt numberOf bytesOf beforeOf afterOf
-ok-full = number 2 (page 2 (b ∷ []) ∷ []) (fileOf log 206 2) entries table refl says-full computes-full (lit≤ tt, tt) (λ t. lit≤ tt, tt)
+ok-full = number 2 oneBranch (page 2 (b ∷ []) ∷ []) (fileOf log 206 2) entries table refl says-full computes-full (lit≤ tt, tt) (λ t. lit≤ tt, tt)
 
-left-full : slotAt (pageAt 0 (recoverOf (lent magic 2 stood (fileOf log 206 2)) table .pages)) 0 ≡ a
+left-full : slotAt (pageAt 0 (recoverOf (lent magic 2 oneBranch stood (fileOf log 206 2)) table .pages)) 0 ≡ a
 unfolding topOn topOf changes effectOn decided committed isOn isChanging numberAt numberOf bytesOf beforeOf afterOf
-left-full = slot 2 (page 2 (b ∷ []) ∷ []) (fileOf log 206 2) entries table refl says-full computes-full (lit≤ tt, tt) (λ t. lit≤ tt, tt) 0 (lit< tt) 0
+left-full = slot 2 oneBranch (page 2 (b ∷ []) ∷ []) (fileOf log 206 2) entries table refl says-full computes-full (lit≤ tt, tt) (λ t. lit≤ tt, tt) 0 (lit< tt) 0
 
 -- the second leaves it
-ok-torn : recoverOf (lent magic 2 stood (fileOf log 206 0)) table .answer .number ≡ 0
+ok-torn : recoverOf (lent magic 2 oneBranch stood (fileOf log 206 0)) table .answer .number ≡ 0
 unfolding topOn topOf changes effectOn decided committed isOn isChanging numberAt numberOf bytesOf beforeOf afterOf
-ok-torn = number 2 (page 2 (b ∷ []) ∷ []) (fileOf log 206 0) (begins 1 7 ∷ []) table refl says-torn computes-torn (lit≤ tt, tt) (λ t. lit≤ tt, tt)
+ok-torn = number 2 oneBranch (page 2 (b ∷ []) ∷ []) (fileOf log 206 0) (begins 1 7 ∷ []) table refl says-torn computes-torn (lit≤ tt, tt) (λ t. lit≤ tt, tt)
 
-left-torn : slotAt (pageAt 0 (recoverOf (lent magic 2 stood (fileOf log 206 0)) table .pages)) 0 ≡ b
+left-torn : slotAt (pageAt 0 (recoverOf (lent magic 2 oneBranch stood (fileOf log 206 0)) table .pages)) 0 ≡ b
 unfolding topOn topOf changes effectOn decided committed isOn isChanging numberAt numberOf bytesOf beforeOf afterOf
-left-torn = slot 2 (page 2 (b ∷ []) ∷ []) (fileOf log 206 0) (begins 1 7 ∷ []) table refl says-torn computes-torn (lit≤ tt, tt) (λ t. lit≤ tt, tt) 0 (lit< tt) 0
+left-torn = slot 2 oneBranch (page 2 (b ∷ []) ∷ []) (fileOf log 206 0) (begins 1 7 ∷ []) table refl says-torn computes-torn (lit≤ tt, tt) (λ t. lit≤ tt, tt) 0 (lit< tt) 0
 
 -- ---- the second after the first
 
@@ -116,25 +118,25 @@ abbrev full : Run
 full = record { floor = 2; cut = 206; zeros = 2; table = table }
 
 -- the first ran to its end: all its pages are stored
-ran-full : Mixed stood (ran history magic full stood .pages) (ran history magic full stood .pages)
+ran-full : Mixed stood (ran history magic oneBranch full stood .pages) (ran history magic oneBranch full stood .pages)
 unfolding history
 ran-full =
     let one = pages-in (page 2 (b ∷ []) ∷ []) stood-ok in
     let below : (0 < pagesIn stood) × Unit {0} = (omega (arith, one), tt) in
     let bytes = area-bytes (page 2 (b ∷ []) ∷ []) stood-ok in
-    subst (λ (Q : List ℕ). Mixed stood (ran history magic full stood .pages) Q)
-    (night history .anyOrder magic full stood bytes bytes-history ok-full (0 ∷ []) below (λ i l t. inl (omega (arith, one))))
-    (night history .anyStop magic full stood bytes bytes-history ok-full (0 ∷ []) below)
+    subst (λ (Q : List ℕ). Mixed stood (ran history magic oneBranch full stood .pages) Q)
+    (night history .anyOrder magic oneBranch full stood bytes bytes-history ok-full (0 ∷ []) below (λ i l t. inl (omega (arith, one))))
+    (night history .anyStop magic oneBranch full stood bytes bytes-history ok-full (0 ∷ []) below)
 
 untouched : topOf 0 (begins 1 7 ∷ []) ≡ 0
 unfolding topOf topOn isOn isChanging
 untouched = refl
 
 -- what the second leaves in the slot of any pages is what it finds
-keeps : (Q : List ℕ) → 0 < pagesIn Q → recoverOf (lent magic 2 Q (fileOf log 206 0)) table .answer .number ≡ 0
-    → slotAt (pageAt 0 (recoverOf (lent magic 2 Q (fileOf log 206 0)) table .pages)) 0 ≡ slotAt (pageAt 0 Q) 0
+keeps : (Q : List ℕ) → 0 < pagesIn Q → recoverOf (lent magic 2 oneBranch Q (fileOf log 206 0)) table .answer .number ≡ 0
+    → slotAt (pageAt 0 (recoverOf (lent magic 2 oneBranch Q (fileOf log 206 0)) table .pages)) 0 ≡ slotAt (pageAt 0 Q) 0
 keeps Q l ok =
-    slot-after magic 2 Q (fileOf log 206 0) table (zero-accepted magic 2 Q (fileOf log 206 0) table ok) 0 l 0
+    slot-after magic 2 oneBranch Q (fileOf log 206 0) table (zero-accepted magic 2 oneBranch Q (fileOf log 206 0) table ok) 0 l 0
     ∙ ap (λ (es : List Entry). decided (committed es) es 0 0 (slotAt (pageAt 0 Q) 0)) (says-torn .says)
     ∙ decided-untouched 0 (committed (begins 1 7 ∷ [])) (begins 1 7 ∷ []) 0 (slotAt (pageAt 0 Q) 0) (omega (arith, untouched))
 
@@ -144,8 +146,8 @@ differ e = let z : getD b 29 0 ≡ getD a 29 0 = ap (λ (l : List ℕ). getD l 2
 pub needs-file-length : RepeatsAnyhow → ⊥
 unfolding history
 needs-file-length all =
-    let Q : List ℕ = ran history magic full stood .pages in
-    let r = all history magic 2 stood 206 2 206 0 table table table (area-bytes (page 2 (b ∷ []) ∷ []) stood-ok) bytes-history (omega arith) refl refl ok-torn Q ran-full in
+    let Q : List ℕ = ran history magic oneBranch full stood .pages in
+    let r = all history magic 2 oneBranch stood 206 2 206 0 table table table (area-bytes (page 2 (b ∷ []) ∷ []) stood-ok) bytes-history (omega arith) refl refl ok-torn Q ran-full in
     let n = ran-full .size in
     let one = pages-in (page 2 (b ∷ []) ∷ []) stood-ok in
     let k = keeps Q (omega (arith, n, one)) (ap (λ (x : Answer). x .number) (r .0) ∙ ok-torn) in

@@ -10,3 +10,4 @@ pub mod ExactEnd
 pub mod ThreeRuns
 pub mod FileLength
 pub mod OrderExample
+pub mod IsolationExample

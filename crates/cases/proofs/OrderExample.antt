@@ -17,6 +17,8 @@ use Rattle.wal.proofs.Encoding.{entries-log, length-log}
 use Rattle.page.specs.Layout.{dataType, pagesIn, pageAt, typeOf, slotAt, payloadOf}
 use Rattle.page.specs.Rows.{visible, row, atOrAfter}
 use Rattle.page.proofs.Goodness.{packed-bytes}
+use Rattle.rules.specs.Branch.{isForeign, together}
+use Rattle.page.specs.Branch.{belongs}
 use Rattle.rules.specs.Lent.{lent}
 use Rattle.rules.specs.Shape.{isKnown, isChanging, isImage, same, isKeyed, isBare, isShaped, beforeOf, afterOf, isOn, effectOn, topOn, sameSlot}
 use Rattle.rules.specs.Order.{begun, ended, isOpen, inOrder, clashes, faultAfter, orderFrom}
@@ -26,7 +28,7 @@ use Rattle.history.specs.History.{Step, logged, Honest, start, ledger}
 use Rattle.history.specs.Demand3.{History, Stands, HasFelt}
 use Rattle.intake.specs.Orders.{markOf, orderFound}
 use Rattle.intake.proofs.Recovered.{order-kept}
-use Rattle.cases.specs.Build.{begins, commits, inserts, logOf, magic, page, pageOf, area, tuple}
+use Rattle.cases.specs.Build.{begins, commits, inserts, logOf, oneBranch, magic, page, pageOf, area, tuple}
 use Rattle.cases.specs.Starred.{noRecord}
 use Rattle.cases.proofs.Parts.{tuple-bytes, bare, insertable}
 use Rattle.cases.proofs.Area.{empty-ok, page-at, slot-of, type-of, pages-in}
@@ -55,7 +57,7 @@ abbrev file : List ℕ
 file = fileOf (logOf es) cut 0
 
 encodable : AllEncodable es
-encodable = (bare 1 1 7 (lit< tt) (lit< tt) (lit< tt), (insertable 2 7 0 0 (lit< tt) (lit< tt) (tuple-bytes 47 1 (lit< tt)) (lit≤ tt), (bare 2 3 7 (lit< tt) (lit< tt) (lit< tt), tt)))
+encodable = (bare 1 1 7 (lit< tt) (lit< tt) (lit< tt), (insertable 2 7 0 0 (lit< tt) (lit< tt) (lit< tt) (tuple-bytes 47 1 (lit< tt)) (lit≤ tt), (bare 2 3 7 (lit< tt) (lit< tt) (lit< tt), tt)))
 
 -- ---- the history
 
@@ -108,18 +110,18 @@ says : Says file es
 unfolding bytesOf
 says = subst (λ (l : List ℕ). Says l es) (sym log-whole) (plain es encodable (lit≤ tt))
 
-computes : Computes (page 0 [] ∷ []) es
-unfolding orderFrom faultAfter isKnown isShaped isBare isImage isKeyed same isChanging inOrder isOpen begun ended clashes sameSlot isOn numberAt numberOf bytesOf
-computes = record { pages = (empty-ok, tt); few = lit≤ tt; order = refl; onPage = (lit< tt, (lit< tt, (lit< tt, tt))) }
+computes : Computes oneBranch (page 0 [] ∷ []) es
+unfolding orderFrom faultAfter isKnown isShaped isBare isImage isKeyed same isChanging inOrder isOpen begun ended clashes sameSlot isOn numberAt numberOf bytesOf isForeign together belongs
+computes = record { pages = (empty-ok, tt); few = lit≤ tt; order = refl; onPage = (lit< tt, (lit< tt, (lit< tt, tt))); own = (refl, (refl, (refl, tt))) }
 
-accepted : recoverOf (lent magic 0 before file) (replicate 8 noRecord) .answer .number ≡ 0
+accepted : recoverOf (lent magic 0 oneBranch before file) (replicate 8 noRecord) .answer .number ≡ 0
 unfolding topOn topOf changes effectOn decided committed isOn isChanging numberAt numberOf bytesOf beforeOf afterOf
-accepted = number 0 (page 0 [] ∷ []) file es (replicate 8 noRecord) refl says computes (lit≤ tt, tt) (λ t. lit≤ tt, tt)
+accepted = number 0 oneBranch (page 0 [] ∷ []) file es (replicate 8 noRecord) refl says computes (lit≤ tt, tt) (λ t. lit≤ tt, tt)
 
 -- ---- what the ledger holds, and that it is found
 
 abbrev recovered : List ℕ
-recovered = recoverOf (lent magic 0 before file) (replicate 8 noRecord) .pages
+recovered = recoverOf (lent magic 0 oneBranch before file) (replicate 8 noRecord) .pages
 
 held : ledger before (entries file) 0 0 ≡ order
 unfolding ledger committed effectOn isOn isChanging numberAt numberOf bytesOf beforeOf afterOf
@@ -139,5 +141,5 @@ pub order-found : (orderFound magic recovered (markOf (replicate 16 0)) .found �
     × (atOrAfter (orderFound magic recovered (markOf (replicate 16 0)) .order .page .0) (orderFound magic recovered (markOf (replicate 16 0)) .order .slot) (row 0 0 (pageAt 0 recovered)) ≡ true)
 unfolding placed
 order-found =
-    order-kept placed magic 0 (λ i. 0) before cut 0 (replicate 8 noRecord) stands felt before-bytes (bytes-append header-bytes (all-bytes es encodable)) accepted 0 0 lent-there data-there (replicate 16 0)
+    order-kept placed magic 0 oneBranch (λ i. 0) before cut 0 (replicate 8 noRecord) stands felt before-bytes (bytes-append header-bytes (all-bytes es encodable)) accepted 0 0 lent-there data-there (replicate 16 0)
     (rw held seen) (rw held (lit≤ tt)) (rw held refl)

@@ -33,18 +33,18 @@ key-length : (i k : ℕ) → length (key i k) ≡ 10
 key-length i k = omega (arith, length-append (bytesOf 8 i) (bytesOf 2 k), length-bytesOf 8 i, length-bytesOf 2 k)
 
 -- Begin, Commit and Rollback
-pub bare : (kind lsn t : ℕ) → kind < 256 → lsn < 2 ^ 64 → t < 2 ^ 64 → Encodable (entry kind lsn t [] [] [])
+pub bare : (kind lsn t : ℕ) → kind < 256 → lsn < 2 ^ 64 → t < 2 ^ 64 → Encodable (entry kind lsn t 14 [] [] [])
 bare kind lsn t hk hl ht =
     record { lsn = hl; txn = ht; kind = hk; table = omega arith; short = omega arith; size = omega arith; key = bytes-nil; old = bytes-nil; new = bytes-nil }
 
-module _ (lsn t i k : ℕ) (hl : lsn < 2 ^ 64) (ht : t < 2 ^ 64) where
+module _ (lsn t i k : ℕ) (hl : lsn < 2 ^ 64) (ht : t < 2 ^ 64) (hi : 14 + i < 2 ^ 32) where
   pub insertable : {v : List ℕ} → Bytes v → length v ≤ 16316 → Encodable (inserts lsn t i k v)
   insertable b h =
-      record { lsn = hl; txn = ht; kind = omega arith; table = omega arith; short = omega (arith, key-length i k); size = omega (arith, key-length i k); key = key-bytes i k; old = bytes-nil; new = b }
+      record { lsn = hl; txn = ht; kind = omega arith; table = hi; short = omega (arith, key-length i k); size = omega (arith, key-length i k); key = key-bytes i k; old = bytes-nil; new = b }
 
   pub deletable : {v : List ℕ} → Bytes v → length v ≤ 16316 → Encodable (deletes lsn t i k v)
   deletable b h =
-      record { lsn = hl; txn = ht; kind = omega arith; table = omega arith; short = omega (arith, key-length i k); size = omega (arith, key-length i k); key = key-bytes i k; old = b; new = bytes-nil }
+      record { lsn = hl; txn = ht; kind = omega arith; table = hi; short = omega (arith, key-length i k); size = omega (arith, key-length i k); key = key-bytes i k; old = b; new = bytes-nil }
 
   pub updatable : {v w : List ℕ} → Bytes v → Bytes w → length v + length w ≤ 32000 → Encodable (updates lsn t i k v w)
   updatable {v} {w} b c h =
@@ -52,7 +52,7 @@ module _ (lsn t i k : ℕ) (hl : lsn < 2 ^ 64) (ht : t < 2 ^ 64) where
         lsn = hl;
         txn = ht;
         kind = omega arith;
-        table = omega arith;
+        table = hi;
         short = omega (arith, key-length i k);
         size = omega (arith, key-length i k, length-append (key i k) v, length-append (key i k) w);
         key = key-bytes i k;

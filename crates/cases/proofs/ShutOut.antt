@@ -14,7 +14,7 @@ use Rattle.rules.specs.Shape.{isChange, isChanging, isOn, effectOn, topOn, befo
 use Rattle.rules.specs.Mend.{committed, changes, topOf, decided}
 use Rattle.rules.specs.Recover.{Recovered, recoverOf, done, outcomeOf, transactions, changesOf, changesZero, touchedFrom}
 use Rattle.rules.specs.declared.Answer.{Answer}
-use Rattle.cases.specs.Build.{magic, page}
+use Rattle.cases.specs.Build.{twoBranches, magic, page}
 use Rattle.cases.specs.Starred.{a, b, c, noRecord}
 use Rattle.cases.specs.Example.{torn, whole, stood}
 use Rattle.cases.proofs.Area.{page-at, slot-of}
@@ -23,7 +23,7 @@ use Rattle.cases.proofs.Example.{says, computes, ok, stood-ok, end-torn
 use Rattle.rules.specs.Lent.{lent}
 
 abbrev recovered : Recovered
-recovered = recoverOf (lent magic 7 stood torn) (replicate 8 noRecord)
+recovered = recoverOf (lent magic 7 twoBranches stood torn) (replicate 8 noRecord)
 
 -- one that always refuses
 pub not-always-refused : recovered .answer .number ≡ 0
@@ -34,7 +34,7 @@ pub stores-the-winner : (slotAt (pageAt 0 stood) 0 ≡ c) × (slotAt (pageAt 0 (
 unfolding topOn topOf changes effectOn decided committed isOn isChanging numberAt numberOf bytesOf beforeOf afterOf
 stores-the-winner = (
   ap (λ (p : List ℕ). slotAt p 0) (page-at (page 7 (c ∷ []) ∷ page 5 (a ∷ []) ∷ []) stood-ok 0 (lit< tt)) ∙ slot-of 0 _ (stood-ok .0) 0,
-  slot 7 _ _ whole _ refl says computes (lit≤ tt, (lit≤ tt, tt)) (λ t. lit≤ tt, (λ t. lit≤ tt, tt)) 0 (lit< tt) 0,
+  slot 7 twoBranches _ _ whole _ refl says computes (lit≤ tt, (lit≤ tt, tt)) (λ t. lit≤ tt, (λ t. lit≤ tt, tt)) 0 (lit< tt) 0,
 )
 
 -- one that mends the first page and leaves the rest: slot 0 of page 1 was lent with 8's row, and is empty
@@ -42,7 +42,7 @@ pub mends-later-pages : (slotAt (pageAt 1 stood) 0 ≡ a) × (slotAt (pageAt 1 (
 unfolding topOn topOf changes effectOn decided committed isOn isChanging numberAt numberOf bytesOf beforeOf afterOf
 mends-later-pages = (
   ap (λ (p : List ℕ). slotAt p 0) (page-at (page 7 (c ∷ []) ∷ page 5 (a ∷ []) ∷ []) stood-ok 1 (lit< tt)) ∙ slot-of 1 _ (stood-ok .1 .0) 0,
-  slot 7 _ _ whole _ refl says computes (lit≤ tt, (lit≤ tt, tt)) (λ t. lit≤ tt, (λ t. lit≤ tt, tt)) 1 (lit< tt) 0,
+  slot 7 twoBranches _ _ whole _ refl says computes (lit≤ tt, (lit≤ tt, tt)) (λ t. lit≤ tt, (λ t. lit≤ tt, tt)) 1 (lit< tt) 0,
 )
 
 -- one that reads the first entry and calls the rest a tail, and one with invented counts: the whole answer
@@ -64,4 +64,4 @@ pub counts-the-entries : recovered .answer
     }
 unfolding done transactions changesOf changesZero outcomeOf touchedFrom topOn topOf changes effectOn decided committed isOn isChanging numberAt numberOf bytesOf beforeOf afterOf
 counts-the-entries =
-    answer 7 _ _ whole _ refl says computes (lit≤ tt, (lit≤ tt, tt)) (λ t. lit≤ tt, (λ t. lit≤ tt, tt)) ∙ ap₂ (λ (n : ℕ) (r : Reading). done whole n (endingNumber r) 2) end-torn ending-torn
+    answer 7 twoBranches _ _ whole _ refl says computes (lit≤ tt, (lit≤ tt, tt)) (λ t. lit≤ tt, (λ t. lit≤ tt, tt)) ∙ ap₂ (λ (n : ℕ) (r : Reading). done whole n (endingNumber r) 2) end-torn ending-torn

@@ -29,7 +29,7 @@ use Rattle.history.proofs.Demand3.{bytes-file}
 use Rattle.history.proofs.Stores.{page-stored, page-left}
 use Rattle.history.proofs.Records.{table-of}
 use Rattle.history.proofs.Night.{night}
-use Rattle.cases.specs.Build.{begins, magic, page}
+use Rattle.cases.specs.Build.{begins, twoBranches, magic, page}
 use Rattle.cases.specs.Starred.{a, b, c, noRecord}
 use Rattle.cases.specs.Example.{whole, all, log, torn, stood}
 use Rattle.cases.specs.ThreeRuns.{first, second, last, halfway}
@@ -53,17 +53,17 @@ bytes-example = bytes-log all all-encodable
 
 -- ---- the first run, stopped after page 0
 
-pub stopped : Mixed stood (ran example magic first stood .pages) halfway
+pub stopped : Mixed stood (ran example magic twoBranches first stood .pages) halfway
 unfolding example
 stopped =
-    subst (λ (es : List Entry). Mixed stood (ran example magic first stood .pages) (stored es (0 ∷ []) stood)) (says .says)
-    (night example .anyStop magic first stood bytes-stood bytes-example ok (0 ∷ []) (omega (arith, two), tt))
+    subst (λ (es : List Entry). Mixed stood (ran example magic twoBranches first stood .pages) (stored es (0 ∷ []) stood)) (says .says)
+    (night example .anyStop magic twoBranches first stood bytes-stood bytes-example ok (0 ∷ []) (omega (arith, two), tt))
 
 -- half-way: page 0, lent with c, is as the run leaves it; page 1, which the run would leave empty, is as lent
 pub half-way : (slotAt (pageAt 0 halfway) 0 ≡ b) × (slotAt (pageAt 1 halfway) 0 ≡ a)
 half-way = (
-  ap (λ (p : List ℕ). slotAt p 0) (sym (halfway-is 0) ∙ page-stored magic 7 stood torn (replicate 8 noRecord) bytes-stood bytes-torn ok (0 ∷ []) below 0 (below .0) (inl refl)) ∙ stores-the-winner .1,
-  ap (λ (p : List ℕ). slotAt p 0) (sym (halfway-is 1) ∙ page-left magic 7 stood torn (replicate 8 noRecord) bytes-stood bytes-torn ok (0 ∷ []) below 1 not-stored) ∙ mends-later-pages .0,
+  ap (λ (p : List ℕ). slotAt p 0) (sym (halfway-is 0) ∙ page-stored magic 7 twoBranches stood torn (replicate 8 noRecord) bytes-stood bytes-torn ok (0 ∷ []) below 0 (below .0) (inl refl)) ∙ stores-the-winner .1,
+  ap (λ (p : List ℕ). slotAt p 0) (sym (halfway-is 1) ∙ page-left magic 7 twoBranches stood torn (replicate 8 noRecord) bytes-stood bytes-torn ok (0 ∷ []) below 1 not-stored) ∙ mends-later-pages .0,
 )
   where
     below : (0 < pagesIn stood) × Unit {0}
@@ -87,38 +87,38 @@ second-behind = record { is = refl; head = refl; reads = refl; never = λ v q. n
 
 size-ok : sizeWrong halfway ≡ false
 unfolding sizeWrong
-size-ok = rw (stopped .size) (zero-accepted magic 7 stood torn (replicate 8 noRecord) ok .size)
+size-ok = rw (stopped .size) (zero-accepted magic 7 twoBranches stood torn (replicate 8 noRecord) ok .size)
 
-second-verdict : recoverVerdict (fullAt 8) (lent magic 7 halfway (fileFor example second)) ≡ verdict 4 (32 + sizesOf whole)
+second-verdict : recoverVerdict (fullAt 8) (lent magic 7 twoBranches halfway (fileFor example second)) ≡ verdict 4 (32 + sizesOf whole)
 unfolding recoverVerdict logVerdict
 second-verdict =
     rw (size-ok, header-is second-behind encodable, entries-is second-behind encodable, eq-eqb _ _ (computes .order), ending-is second-behind encodable, end-is second-behind encodable)
 
-pub second-refused : ran example magic second halfway .answer .number ≡ 4
-second-refused = refusal 7 halfway (fileFor example second) (replicate 8 noRecord) refl 3 (32 + sizesOf whole) second-verdict .0
+pub second-refused : ran example magic twoBranches second halfway .answer .number ≡ 4
+second-refused = refusal 7 twoBranches halfway (fileFor example second) (replicate 8 noRecord) refl 3 (32 + sizesOf whole) second-verdict .0
 
 -- ---- the night
 
-left : Leaves example magic (first ∷ second ∷ []) stood halfway
+left : Leaves example magic twoBranches (first ∷ second ∷ []) stood halfway
 left = then stopped (then (record { size = refl; each = λ i l. inl refl }) none)
 
-last-ok : ran example magic last stood .answer .number ≡ 0
+last-ok : ran example magic twoBranches last stood .answer .number ≡ 0
 unfolding example
 last-ok = ok-completed
 
 -- the last run ends as it would have ended alone
-pub three-runs : (ran example magic last halfway .answer ≡ ran example magic last stood .answer) × (ran example magic last halfway .pages ≡ ran example magic last stood .pages)
-three-runs = night example .repeats magic (first ∷ second ∷ []) last stood halfway (replicate 8 noRecord) bytes-stood bytes-example rising refl last-ok left
+pub three-runs : (ran example magic twoBranches last halfway .answer ≡ ran example magic twoBranches last stood .answer) × (ran example magic twoBranches last halfway .pages ≡ ran example magic twoBranches last stood .pages)
+three-runs = night example .repeats magic twoBranches (first ∷ second ∷ []) last stood halfway (replicate 8 noRecord) bytes-stood bytes-example rising refl last-ok left
 
 -- ---- transaction 7, which the first run calls committed
 
-first-ok : ran example magic first stood .answer .number ≡ 0
+first-ok : ran example magic twoBranches first stood .answer .number ≡ 0
 unfolding example
 first-ok = ok
 
-first-table : ran example magic first stood .table ≡ tableAfter whole (replicate 8 noRecord)
+first-table : ran example magic twoBranches first stood .table ≡ tableAfter whole (replicate 8 noRecord)
 unfolding example
-first-table = table-of magic 7 stood torn (replicate 8 noRecord) ok ∙ ap (λ (es : List Entry). tableAfter es (replicate 8 noRecord)) (says .says)
+first-table = table-of magic 7 twoBranches stood torn (replicate 8 noRecord) ok ∙ ap (λ (es : List Entry). tableAfter es (replicate 8 noRecord)) (says .says)
 
 committed-7 : (0 < length (recordsOf whole whole)) × (getD (tableAfter whole (replicate 8 noRecord)) 0 noRecord .outcome ≡ 1)
 unfolding tableAfter recordsOf recordOf outcomeOf
@@ -128,7 +128,7 @@ has-7 : 0 < length (recordsOf (entries (fileFor example first)) (entries (fileFo
 unfolding example
 has-7 = rw (says .says) (committed-7 .0)
 
-pub stays : getD (ran example magic last halfway .table) 0 noRecord ≡ getD (ran example magic first stood .table) 0 noRecord
+pub stays : getD (ran example magic twoBranches last halfway .table) 0 noRecord ≡ getD (ran example magic twoBranches first stood .table) 0 noRecord
 stays =
-    night example .kept magic first last stood halfway (record { floors = refl; records = refl; cuts = omega arith; files = omega (arith, rising .0 .files, rising .1 .files) })
+    night example .kept magic twoBranches first last stood halfway (record { floors = refl; records = refl; cuts = omega arith; files = omega (arith, rising .0 .files, rising .1 .files) })
     first-ok (ap (λ (r : Answer). r .number) (three-runs .0) ∙ last-ok) noRecord 0 has-7 (ap (λ (t : List Record). getD t 0 noRecord .outcome) first-table ∙ committed-7 .1)

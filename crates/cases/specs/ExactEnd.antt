@@ -6,6 +6,7 @@ use lib.ListN.{take}
 use Rattle.wal.specs.Entry.{Entry, encoded, encodedAll, header}
 use Rattle.wal.specs.Walk.{entries, fileOf}
 use Rattle.page.specs.Layout.{dataType, pagesIn, pageAt, typeOf, slotAt}
+use Rattle.rules.specs.Branch.{Branches}
 use Rattle.rules.specs.Lent.{lent}
 use Rattle.rules.specs.Recover.{recoverOf}
 use Rattle.rules.specs.declared.Record.{Record}
@@ -33,8 +34,8 @@ found = begins 1 7 ∷ stranger ∷ []
 -- the first half of demand 3 of pages that are all at the start, without the exact end of the log
 abbrev pub ExactAnyhow : Type 0
 ExactAnyhow =
-    (magic floor : ℕ) (P : List ℕ) (made : List Step) (L : List ℕ) (c z : ℕ) (table : List Record)
+    (magic floor : ℕ) (br : Branches) (P : List ℕ) (made : List Step) (L : List ℕ) (c z : ℕ) (table : List Record)
     → Honest (λ i. typeOf (pageAt i P) ≡ dataType) (start P) made → entries L ≡ loggedIn made
-    → recoverOf (lent magic floor P (fileOf L c z)) table .answer .number ≡ 0
+    → recoverOf (lent magic floor br P (fileOf L c z)) table .answer .number ≡ 0
     → (i k : ℕ) → i < pagesIn P → typeOf (pageAt i P) ≡ dataType
-    → slotAt (pageAt i (recoverOf (lent magic floor P (fileOf L c z)) table .pages)) k ≡ ledger P (entries (fileOf L c z)) i k
+    → slotAt (pageAt i (recoverOf (lent magic floor br P (fileOf L c z)) table .pages)) k ≡ ledger P (entries (fileOf L c z)) i k

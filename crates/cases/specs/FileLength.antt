@@ -6,6 +6,7 @@ use mathlib.Core.List.{List, [], _∷_}
 use lib.ListN.{length}
 use Rattle.endian.specs.Numbers.{Bytes}
 use Rattle.wal.specs.Entry.{Entry}
+use Rattle.rules.specs.Branch.{Branches}
 use Rattle.rules.specs.Lent.{lent}
 use Rattle.rules.specs.Recover.{recoverOf}
 use Rattle.rules.specs.declared.Record.{Record}
@@ -33,9 +34,9 @@ stood = area (page 2 (b ∷ []) ∷ [])
 -- the second half of demand 3, where the cuts alone never get shorter
 abbrev pub RepeatsAnyhow : Type 0
 RepeatsAnyhow =
-    (h : History) (magic floor : ℕ) (P : List ℕ) (c₁ z₁ c₂ z₂ : ℕ) (T₁ T₂ T₃ : List Record) → Bytes P → Bytes (h .log)
+    (h : History) (magic floor : ℕ) (br : Branches) (P : List ℕ) (c₁ z₁ c₂ z₂ : ℕ) (T₁ T₂ T₃ : List Record) → Bytes P → Bytes (h .log)
     → c₁ ≤ c₂ → length T₁ ≡ length T₂ → length T₃ ≡ length T₂
-    → recoverOf (lent magic floor P (file h c₂ z₂)) T₂ .answer .number ≡ 0
-    → (Q : List ℕ) → Mixed P (recoverOf (lent magic floor P (file h c₁ z₁)) T₁ .pages) Q
-    → (recoverOf (lent magic floor Q (file h c₂ z₂)) T₃ .answer ≡ recoverOf (lent magic floor P (file h c₂ z₂)) T₂ .answer)
-    × (recoverOf (lent magic floor Q (file h c₂ z₂)) T₃ .pages ≡ recoverOf (lent magic floor P (file h c₂ z₂)) T₂ .pages)
+    → recoverOf (lent magic floor br P (file h c₂ z₂)) T₂ .answer .number ≡ 0
+    → (Q : List ℕ) → Mixed P (recoverOf (lent magic floor br P (file h c₁ z₁)) T₁ .pages) Q
+    → (recoverOf (lent magic floor br Q (file h c₂ z₂)) T₃ .answer ≡ recoverOf (lent magic floor br P (file h c₂ z₂)) T₂ .answer)
+    × (recoverOf (lent magic floor br Q (file h c₂ z₂)) T₃ .pages ≡ recoverOf (lent magic floor br P (file h c₂ z₂)) T₂ .pages)

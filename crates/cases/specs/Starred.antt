@@ -8,10 +8,10 @@ use Rattle.wal.specs.Entry.{Entry, encoded, header}
 use Rattle.page.specs.Layout.{pageAt, bodyOf, slotAt, slotOff, freeStartOf, freeEndOf, xmaxOf, deletedOf}
 use Rattle.rules.specs.Recover.{Recovered, recoverOf}
 use Rattle.rules.specs.declared.Record.{Record}
-use Rattle.cases.specs.Build.{begins, commits, rollsBack, inserts, deletes, updates, logOf, magic, page, area, tuple}
+use Rattle.cases.specs.Build.{begins, commits, rollsBack, inserts, deletes, updates, logOf, oneBranch, magic, page, area, tuple}
 use Rattle.rules.specs.Lent.{lent}
 
--- what is lent: the floor, the pages and the log; the table has eight records
+-- what is lent: the floor, the pages and the log; the table has eight records, and there is one branch (paper 02, W13)
 pub record Input : Type 0 where
   pub floor : ℕ
   pub pages : List ℕ
@@ -21,7 +21,7 @@ abbrev pub noRecord : Record
 noRecord = record { number = record { 0 = 0 }; first = record { 0 = 0 }; outcome = 0; changes = 0 }
 
 abbrev pub run : Input → Recovered
-run x = recoverOf (lent magic (x .floor) (x .pages) (x .log)) (replicate 8 noRecord)
+run x = recoverOf (lent magic (x .floor) oneBranch (x .pages) (x .log)) (replicate 8 noRecord)
 
 -- what is expected of page 0 and of the answer
 pub data Expected : Type 0 where

@@ -1,4 +1,4 @@
--- The walk for changes to pages that cannot take them, turn by turn. Assumes nothing.
+-- Changes to pages that cannot take them: one entry, and where none is refused. Assumes nothing.
 use Prim.Native.Nat.{ℕ, suc, _+_, _*_, _≤_, _<_}
 use mathlib.Core.Path.{_≡_, refl, sym, ap, _∙_}
 use mathlib.Core.Bool.{Bool, true, false, not}
@@ -7,18 +7,15 @@ use native.Mathlib.Decide.{decLt}
 use native.Mathlib.Numerals.{add-one}
 use native.Mathlib.Omega.{arith}
 use lib.ListN.{getD}
-use lib.Dec.{ltb, leb, eqb}
-use borrow.Author.Tests.{lt-ltb, le-ltb, le-leb, lt-leb, eqb-true}
+use lib.Dec.{leb, eqb}
+use borrow.Author.Tests.{le-leb, lt-leb, eqb-true}
 use Rattle.endian.specs.Pick.{pick}
-use Rattle.wal.specs.Entry.{Entry, sizeOf}
-use Rattle.wal.specs.Read.{first, lengthAt, view}
+use Rattle.wal.specs.Entry.{Entry}
+use Rattle.wal.specs.Read.{first}
 use Rattle.wal.specs.Walk.{entries, endOf}
-use Rattle.wal.specs.Prefix.{Stands, said, onward}
-use Rattle.wal.proofs.Places.{size-of}
-use Rattle.wal.proofs.Prefix.{stands-at, before-end, onward-first, onward-next, onward-end}
+use Rattle.wal.proofs.Prefix.{before-end}
 use Rattle.page.specs.Layout.{pageBytes, dataType, pagesIn}
-use Rattle.refusals.specs.Verdict.{verdict, accepted}
-use Rattle.refusals.specs.declared.Verdict.{Verdict}
+use Rattle.refusals.specs.Verdict.{accepted}
 use Rattle.page.proofs.Reading.{type-at}
 use Rattle.rules.specs.Shape.{both, isChange, isOn, pageOf, slotOf, topOn}
 use Rattle.rules.specs.Order.{any}
@@ -26,7 +23,7 @@ use Rattle.rules.specs.Mend.{topOf}
 use Rattle.rules.specs.Recover.{isStray, strayFrom}
 use Rattle.rules.proofs.OrderLaws.{Every}
 use Rattle.rules.proofs.Tests.{either-false, false-true}
-use Rattle.rules.proofs.Verdicts.{OnData, all-lent}
+use Rattle.rules.proofs.Verdicts.{OnData, none-earliest, all-lent}
 use Rattle.cells.specs.Cell.{startOf, Starts}
 use Rattle.cells.specs.Measure.{isBeyond, FirstBeyond}
 use Rattle.cells.proofs.CellLaws.{start-next}
@@ -46,33 +43,6 @@ module _ (pages : List ℕ) (e : Entry) where
     pub stray-type : pageOf e < pagesIn pages → isStray pages e ≡ not (eqb (getD pages (pageOf e * pageBytes + 8) 0) dataType)
     unfolding isStray
     stray-type h = rw (change, lt-leb (pagesIn pages) (pageOf e) h, type-at pages (pageOf e))
-
--- ---- entry by entry
-module _ (pages s : List ℕ) where
-  pub stray-first : strayFrom pages (entries s) 32 ≡ strayFrom pages (onward s 32) 32
-  stray-first = ap (λ (es : List Entry). strayFrom pages es 32) (sym (onward-first s))
-
-  module _ (at : ℕ) (h : Stands s at) where
-    turn : strayFrom pages (onward s at) at ≡ pick (isStray pages (said s at)) (verdict 13 at) (strayFrom pages (onward s (at + lengthAt s at)) (at + lengthAt s at))
-    unfolding strayFrom view
-    turn = rw (onward-next s h, size-of (stands-at h))
-
-    pub stray-here : isStray pages (said s at) ≡ true → strayFrom pages (onward s at) at ≡ verdict 13 at
-    stray-here e = turn ∙ rw e
-
-    pub stray-next : (next : ℕ) → next ≡ at + lengthAt s at → isStray pages (said s at) ≡ false → strayFrom pages (onward s at) at ≡ strayFrom pages (onward s next) next
-    stray-next next q e = turn ∙ rw (e, ← q)
-
-  pub stray-end : (at : ℕ) → at ≡ endOf s → strayFrom pages (onward s at) at ≡ accepted
-  unfolding strayFrom
-  stray-end at e = rw (e, onward-end s)
-
--- where the walk stops
-pub stray-found : {v : Verdict} (at end : ℕ) → at < end → v ≡ verdict 13 at → v ≡ pick (ltb at end) (verdict 13 at) accepted
-stray-found at end h e = e ∙ sym (rw (lt-ltb at end h))
-
-pub stray-none : {v : Verdict} (end : ℕ) → v ≡ accepted → v ≡ pick (ltb end end) (verdict 13 end) accepted
-stray-none end e = e ∙ sym (rw (le-ltb end end (omega arith)))
 
 -- ---- where no change is refused
 
@@ -96,15 +66,10 @@ untouched n i (e ∷ es) h l =
     let o = either-false (isBeyond n e) (any (isBeyond n) es) h in
     omega (arith, off-page n i e (o .0) l, untouched n i es (o .1) l)
 
-none-at : (pages : List ℕ) (es : List Entry) (at : ℕ) → Every (λ e. isStray pages e ≡ false) es → strayFrom pages es at ≡ accepted
-unfolding strayFrom
-none-at pages [] at h = refl
-none-at pages (e ∷ es) at h = rw (h .0) (none-at pages es (at + sizeOf e) (h .1))
-
 pub stray-nowhere : (pages s : List ℕ) (n end r : ℕ) (starts : List ℕ) → n ≡ pagesIn pages → endOf s ≡ end → FirstBeyond s end n r → r ≡ end → Starts (entries s) n starts → OfData pages n starts
     → strayFrom pages (entries s) first ≡ accepted
 stray-nowhere pages s n end r starts lent ends f at-end t d =
-    none-at pages (entries s) first (all-lent pages (entries s) all)
+    none-earliest 12 (isStray pages) (entries s) first (all-lent pages (entries s) all)
   where
     none : any (isBeyond n) (entries s) ≡ false
     none = rw (at-end, ← ends, before-end s) at (f .none)

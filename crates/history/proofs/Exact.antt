@@ -18,10 +18,11 @@ use Rattle.rules.proofs.Again.{zero-accepted, slot-after}
 use Rattle.history.specs.History.{loggedIn, start, ledger}
 use Rattle.history.specs.Demand3.{History, Stands, HasFelt}
 use Rattle.history.proofs.OneSlot.{slot-recovers, fed-last}
+use Rattle.rules.specs.Branch.{Branches}
 use Rattle.rules.specs.Lent.{lent}
 
-module _ (h : History) (magic floor : ℕ) (moment : ℕ → ℕ) (P : List ℕ) (c z : ℕ) (table : List Record)
-    (stands : Stands h moment P) (felt : HasFelt h moment P (fileOf (h .log) c z)) (ok : recoverOf (lent magic floor P (fileOf (h .log) c z)) table .answer .number ≡ 0) where
+module _ (h : History) (magic floor : ℕ) (br : Branches) (moment : ℕ → ℕ) (P : List ℕ) (c z : ℕ) (table : List Record)
+    (stands : Stands h moment P) (felt : HasFelt h moment P (fileOf (h .log) c z)) (ok : recoverOf (lent magic floor br P (fileOf (h .log) c z)) table .answer .number ≡ 0) where
   abbrev E : List Entry
   E = entries (fileOf (h .log) c z)
 
@@ -30,10 +31,10 @@ module _ (h : History) (magic floor : ℕ) (moment : ℕ → ℕ) (P : List ℕ)
   cut = of-log (h .log) c z (h .ends)
 
   pub exact : (i k : ℕ) → i < pagesIn P → typeOf (pageAt i P) ≡ dataType
-      → slotAt (pageAt i (recoverOf (lent magic floor P (fileOf (h .log) c z)) table .pages)) k ≡ ledger (h .pages) E i k
+      → slotAt (pageAt i (recoverOf (lent magic floor br P (fileOf (h .log) c z)) table .pages)) k ≡ ledger (h .pages) E i k
   unfolding decided ledger
   exact i k l d =
-      slot-after magic floor P (fileOf (h .log) c z) table (zero-accepted magic floor P (fileOf (h .log) c z) table ok) i l k
+      slot-after magic floor br P (fileOf (h .log) c z) table (zero-accepted magic floor br P (fileOf (h .log) c z) table ok) i l k
       ∙ ap (winner (committed E) (changes i k E)) (stands .slots i k l d)
       ∙ slot-recovers i k (λ j. typeOf (pageAt j (h .pages)) ≡ dataType) (stands .type i l d) (start (h .pages)) (h .steps) (moment i) (committed E) E (cut .0) (λ t. refl) (h .honest) (cut .1 ∙ h .inLog) (felt .felt i l d)
       ∙ sym (fed-last i k (committed E) E (slotAt (pageAt i (h .pages)) k))

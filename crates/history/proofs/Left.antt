@@ -16,6 +16,7 @@ use Rattle.wal.specs.Walk.{entries}
 use Rattle.page.specs.Layout.{pageBytes, pagesIn, pageAt, countOf, slotAt}
 use Rattle.page.proofs.Tables.{length-tab, getD-tab}
 use Rattle.page.proofs.Goodness.{packed-bytes}
+use Rattle.rules.specs.Branch.{Branches}
 use Rattle.rules.specs.Lent.{lent}
 use Rattle.rules.specs.Shape.{isChange, beforeOf, afterOf}
 use Rattle.rules.specs.Order.{fullAt}
@@ -56,20 +57,20 @@ module _ (es : List Entry) (range : Every InRange es) (i : ℕ) (p : List ℕ) (
 
 -- ---- a run
 
-module _ (magic floor : ℕ) (P F : List ℕ) (T : List Record) (bP : Bytes P) (bF : Bytes F) where
+module _ (magic floor : ℕ) (br : Branches) (P F : List ℕ) (T : List Record) (bP : Bytes P) (bF : Bytes F) where
   lent-bytes : (i : ℕ) → Bytes (pageAt i P)
   lent-bytes i = bytes-take pageBytes (bytes-drop (i * pageBytes) bP)
 
-  page-bytes : (i : ℕ) → i < pagesIn P → Bytes (pageAt i (recoverOf (lent magic floor P F) T .pages))
-  page-bytes i l = go (eqb (recoverVerdict (fullAt (length T)) (lent magic floor P F) .number) 0) refl
+  page-bytes : (i : ℕ) → i < pagesIn P → Bytes (pageAt i (recoverOf (lent magic floor br P F) T .pages))
+  page-bytes i l = go (eqb (recoverVerdict (fullAt (length T)) (lent magic floor br P F) .number) 0) refl
     where
-      go : (b : Bool) → eqb (recoverVerdict (fullAt (length T)) (lent magic floor P F) .number) 0 ≡ b → Bytes (pageAt i (recoverOf (lent magic floor P F) T .pages))
+      go : (b : Bool) → eqb (recoverVerdict (fullAt (length T)) (lent magic floor br P F) .number) 0 ≡ b → Bytes (pageAt i (recoverOf (lent magic floor br P F) T .pages))
       go true e =
-          let a = is-accepted (fullAt (length T)) magic floor P F (eqb-true _ _ e) in
-          rw (page-after magic floor P F T a i l) (bytes-mended (entries F) (in-range F bF) i (pageAt i P) (lent-bytes i))
-      go false e = subst (λ (r : Recovered). Bytes (pageAt i (r .pages))) (sym (recover-refused magic floor P F T e)) (lent-bytes i)
+          let a = is-accepted (fullAt (length T)) magic floor br P F (eqb-true _ _ e) in
+          rw (page-after magic floor br P F T a i l) (bytes-mended (entries F) (in-range F bF) i (pageAt i P) (lent-bytes i))
+      go false e = subst (λ (r : Recovered). Bytes (pageAt i (r .pages))) (sym (recover-refused magic floor br P F T e)) (lent-bytes i)
 
-  pub bytes-left : length P % pageBytes ≡ 0 → (R : List ℕ) → Mixed P (recoverOf (lent magic floor P F) T .pages) R → Bytes R
+  pub bytes-left : length P % pageBytes ≡ 0 → (R : List ℕ) → Mixed P (recoverOf (lent magic floor br P F) T .pages) R → Bytes R
   bytes-left whole R m =
       let s = m .size in
       area-bytes R (ap (λ (n : ℕ). n % pageBytes) s ∙ whole) (λ i l. each i (omega arith))

@@ -6,3 +6,4 @@ pub mod Left
 pub mod Stores
 pub mod Records
 pub mod Night
+pub mod Isolation

@@ -8,6 +8,7 @@ use lib.ListN.{length}
 use Rattle.endian.specs.Numbers.{Bytes}
 use Rattle.wal.proofs.Files.{two-cuts}
 use Rattle.page.proofs.Verdicts.{right-size}
+use Rattle.rules.specs.Branch.{Branches}
 use Rattle.rules.specs.Lent.{lent}
 use Rattle.rules.specs.Order.{fullAt}
 use Rattle.rules.specs.Recover.{recoverOf}
@@ -47,21 +48,21 @@ all-within h (r ∷ s ∷ rs) last a = let m = all-within h (s ∷ rs) last (a .
 
 -- ---- the chain
 
-module _ (h : History) (magic : ℕ) (log : Bytes (h .log)) (last : Run) (T : List Record) (t : length T ≡ length (last .table)) where
+module _ (h : History) (magic : ℕ) (br : Branches) (log : Bytes (h .log)) (last : Run) (T : List Record) (t : length T ≡ length (last .table)) where
   abbrev EndsAs : List ℕ → List ℕ → Type 0
   EndsAs P Q =
-      (recoverOf (lent magic (last .floor) Q (fileFor h last)) T .answer ≡ ran h magic last P .answer)
-      × (recoverOf (lent magic (last .floor) Q (fileFor h last)) T .pages ≡ ran h magic last P .pages)
+      (recoverOf (lent magic (last .floor) br Q (fileFor h last)) T .answer ≡ ran h magic br last P .answer)
+      × (recoverOf (lent magic (last .floor) br Q (fileFor h last)) T .pages ≡ ran h magic br last P .pages)
 
-  pub night-from : {rs : List Run} {P Q : List ℕ} → Leaves h magic rs P Q → AllWithin h rs last → Bytes P → ran h magic last P .answer .number ≡ 0 → EndsAs P Q
+  pub night-from : {rs : List Run} {P Q : List ℕ} → Leaves h magic br rs P Q → AllWithin h rs last → Bytes P → ran h magic br last P .answer .number ≡ 0 → EndsAs P Q
   night-from (none {P = P}) w b ok =
-      demand3 h .repeats magic (last .floor) (last .floor) P (last .cut) (last .zeros) (last .cut) (last .zeros) (last .table) (last .table) T b log (omega arith) (omega arith) refl t ok P
+      demand3 h .repeats magic (last .floor) (last .floor) br P (last .cut) (last .zeros) (last .cut) (last .zeros) (last .table) (last .table) T b log (omega arith) (omega arith) refl t ok P
       (record { size = refl; each = λ i l. inl refl })
   night-from (then {r = r} {P = P} {R = R} m more) w b ok =
       let n = w .0 in
-      let a = demand3 h .repeats magic (r .floor) (last .floor) P (r .cut) (r .zeros) (last .cut) (last .zeros) (r .table) (last .table) (last .table) b log (n .cuts) (n .files) (n .records) refl ok R m in
-      let whole = right-size P (zero-accepted magic (last .floor) P (fileFor h last) (last .table) ok .size) .0 in
-      let x = night-from more (w .1) (bytes-left magic (r .floor) P (fileFor h r) (r .table) b (bytes-file (r .cut) (r .zeros) log) whole R m) (ap (λ (y : Answer). y .number) (a .0) ∙ ok) in
+      let a = demand3 h .repeats magic (r .floor) (last .floor) br P (r .cut) (r .zeros) (last .cut) (last .zeros) (r .table) (last .table) (last .table) b log (n .cuts) (n .files) (n .records) refl ok R m in
+      let whole = right-size P (zero-accepted magic (last .floor) br P (fileFor h last) (last .table) ok .size) .0 in
+      let x = night-from more (w .1) (bytes-left magic (r .floor) br P (fileFor h r) (r .table) b (bytes-file (r .cut) (r .zeros) log) whole R m) (ap (λ (y : Answer). y .number) (a .0) ∙ ok) in
       (x .0 ∙ a .0, x .1 ∙ a .1)
 
 -- ---- the theorem
@@ -69,11 +70,11 @@ module _ (h : History) (magic : ℕ) (log : Bytes (h .log)) (last : Run) (T : Li
 pub night : (h : History) → Night h
 night h =
     record {
-      repeats = λ magic runs last P Q T bytes log rising t ok left. night-from h magic log last T t left (all-within h runs last rising) bytes ok;
-      anyOrder = λ magic r P bytes log ok is below all. any-order magic (r .floor) P (fileFor h r) (r .table) bytes (bytes-file (r .cut) (r .zeros) log) ok is below all;
-      anyStop = λ magic r P bytes log ok is below. any-stop magic (r .floor) P (fileFor h r) (r .table) bytes (bytes-file (r .cut) (r .zeros) log) ok is below;
-      kept = λ magic r s P R n ok₁ ok₂ d j l says.
-          let fine = log-undamaged (fullAt (length (s .table))) (fileFor h s) (zero-accepted magic (s .floor) R (fileFor h s) (s .table) ok₂ .logOk) in
-          never-otherwise magic (r .floor) magic (s .floor) P R (fileFor h r) (fileFor h s) (r .table) (s .table)
+      repeats = λ magic br runs last P Q T bytes log rising t ok left. night-from h magic br log last T t left (all-within h runs last rising) bytes ok;
+      anyOrder = λ magic br r P bytes log ok is below all. any-order magic (r .floor) br P (fileFor h r) (r .table) bytes (bytes-file (r .cut) (r .zeros) log) ok is below all;
+      anyStop = λ magic br r P bytes log ok is below. any-stop magic (r .floor) br P (fileFor h r) (r .table) bytes (bytes-file (r .cut) (r .zeros) log) ok is below;
+      kept = λ magic br r s P R n ok₁ ok₂ d j l says.
+          let fine = log-undamaged (fullAt (length (s .table))) (fileFor h s) (zero-accepted magic (s .floor) br R (fileFor h s) (s .table) ok₂ .logOk) in
+          never-otherwise magic (r .floor) magic (s .floor) br br P R (fileFor h r) (fileFor h s) (r .table) (s .table)
           (two-cuts (h .log) (r .cut) (r .zeros) (s .cut) (s .zeros) (n .cuts) (n .files) fine) ok₁ ok₂ d j l (λ z. omega arith);
     }

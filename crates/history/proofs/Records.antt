@@ -13,6 +13,7 @@ use Rattle.wal.specs.Read.{headerFault, readAt, first}
 use Rattle.wal.specs.Walk.{entries, endOf}
 use Rattle.refusals.specs.Verdict.{verdict}
 use Rattle.refusals.proofs.Then.{then-zero}
+use Rattle.rules.specs.Branch.{Branches}
 use Rattle.rules.specs.Lent.{lent}
 use Rattle.rules.specs.Shape.{both, either, isChange, isChanging, isShaped, isBare}
 use Rattle.rules.specs.Order.{count, any, is, isBegin, begun, ended, isOpen, inOrder, fullAt, orderFrom, endVerdict, logVerdict}
@@ -173,26 +174,26 @@ table-same full₁ full₂ es fs T₁ T₂ d a b j l n =
 
 -- ---- of an accepted run
 
-module _ (magic floor : ℕ) (P F : List ℕ) (T : List Record) (ok : recoverOf (lent magic floor P F) T .answer .number ≡ 0) where
+module _ (magic floor : ℕ) (br : Branches) (P F : List ℕ) (T : List Record) (ok : recoverOf (lent magic floor br P F) T .answer .number ≡ 0) where
   turn-of : InTurn (fullAt (length T)) [] (entries F)
   unfolding logVerdict
   turn-of =
-      let a = then-zero (verdict (headerFault F) 0) _ (zero-accepted magic floor P F T ok .logOk) in
+      let a = then-zero (verdict (headerFault F) 0) _ (zero-accepted magic floor br P F T ok .logOk) in
       let b = then-zero (orderFrom (fullAt (length T)) [] (entries F) first) (endVerdict (readAt F (endOf F)) (endOf F)) (a .1) in
       in-turn (fullAt (length T)) [] (entries F) first (b .0)
 
-  pub table-of : recoverOf (lent magic floor P F) T .table ≡ tableAfter (entries F) T
+  pub table-of : recoverOf (lent magic floor br P F) T .table ≡ tableAfter (entries F) T
   unfolding recoverOf
-  table-of = rw (eq-eqb _ _ (recover-zero magic floor P F T ok))
+  table-of = rw (eq-eqb _ _ (recover-zero magic floor br P F T ok))
 
--- two accepted runs, with whatever magic, floor, pages and table, of which the later log begins with the earlier's entries: what ended, committed or rolled back, is not reported otherwise
-module _ (magic₁ floor₁ magic₂ floor₂ : ℕ) (P₁ P₂ F₁ F₂ : List ℕ) (T₁ T₂ : List Record) (longer : (fs : List Entry) × (entries F₁ ++ fs ≡ entries F₂))
-    (ok₁ : recoverOf (lent magic₁ floor₁ P₁ F₁) T₁ .answer .number ≡ 0) (ok₂ : recoverOf (lent magic₂ floor₂ P₂ F₂) T₂ .answer .number ≡ 0) where
-  pub never-otherwise : (d : Record) (j : ℕ) → j < length (recordsOf (entries F₁) (entries F₁)) → (getD (recoverOf (lent magic₁ floor₁ P₁ F₁) T₁ .table) j d .outcome ≡ 0 → ⊥)
-      → getD (recoverOf (lent magic₂ floor₂ P₂ F₂) T₂ .table) j d ≡ getD (recoverOf (lent magic₁ floor₁ P₁ F₁) T₁ .table) j d
+-- two accepted runs, with whatever magic, floor, branches, pages and table, of which the later log begins with the earlier's entries: what ended, committed or rolled back, is not reported otherwise
+module _ (magic₁ floor₁ magic₂ floor₂ : ℕ) (br₁ br₂ : Branches) (P₁ P₂ F₁ F₂ : List ℕ) (T₁ T₂ : List Record) (longer : (fs : List Entry) × (entries F₁ ++ fs ≡ entries F₂))
+    (ok₁ : recoverOf (lent magic₁ floor₁ br₁ P₁ F₁) T₁ .answer .number ≡ 0) (ok₂ : recoverOf (lent magic₂ floor₂ br₂ P₂ F₂) T₂ .answer .number ≡ 0) where
+  pub never-otherwise : (d : Record) (j : ℕ) → j < length (recordsOf (entries F₁) (entries F₁)) → (getD (recoverOf (lent magic₁ floor₁ br₁ P₁ F₁) T₁ .table) j d .outcome ≡ 0 → ⊥)
+      → getD (recoverOf (lent magic₂ floor₂ br₂ P₂ F₂) T₂ .table) j d ≡ getD (recoverOf (lent magic₁ floor₁ br₁ P₁ F₁) T₁ .table) j d
   never-otherwise d j l n =
-      let b : InTurn (fullAt (length T₂)) [] (entries F₁ ++ longer .0) = subst (InTurn (fullAt (length T₂)) []) (sym (longer .1)) (turn-of magic₂ floor₂ P₂ F₂ T₂ ok₂) in
-      let old = ap (λ (x : List Record). getD x j d) (table-of magic₁ floor₁ P₁ F₁ T₁ ok₁) in
-      ap (λ (x : List Record). getD x j d) (table-of magic₂ floor₂ P₂ F₂ T₂ ok₂ ∙ ap (λ (es : List Entry). tableAfter es T₂) (sym (longer .1)))
-      ∙ table-same (fullAt (length T₁)) (fullAt (length T₂)) (entries F₁) (longer .0) T₁ T₂ d (turn-of magic₁ floor₁ P₁ F₁ T₁ ok₁) b j l (λ z. n (ap (λ (y : Record). y .outcome) old ∙ z))
+      let b : InTurn (fullAt (length T₂)) [] (entries F₁ ++ longer .0) = subst (InTurn (fullAt (length T₂)) []) (sym (longer .1)) (turn-of magic₂ floor₂ br₂ P₂ F₂ T₂ ok₂) in
+      let old = ap (λ (x : List Record). getD x j d) (table-of magic₁ floor₁ br₁ P₁ F₁ T₁ ok₁) in
+      ap (λ (x : List Record). getD x j d) (table-of magic₂ floor₂ br₂ P₂ F₂ T₂ ok₂ ∙ ap (λ (es : List Entry). tableAfter es T₂) (sym (longer .1)))
+      ∙ table-same (fullAt (length T₁)) (fullAt (length T₂)) (entries F₁) (longer .0) T₁ T₂ d (turn-of magic₁ floor₁ br₁ P₁ F₁ T₁ ok₁) b j l (λ z. n (ap (λ (y : Record). y .outcome) old ∙ z))
       ∙ sym old

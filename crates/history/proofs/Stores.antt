@@ -13,6 +13,7 @@ use Rattle.wal.specs.Entry.{Entry}
 use Rattle.wal.specs.Walk.{entries}
 use Rattle.page.specs.Layout.{pageBytes, pagesIn, pageAt}
 use Rattle.page.proofs.Verdicts.{right-size, page-length}
+use Rattle.rules.specs.Branch.{Branches}
 use Rattle.rules.specs.Lent.{lent}
 use Rattle.rules.specs.Order.{fullAt}
 use Rattle.rules.specs.Mend.{committed, topOf, mendBy, mend}
@@ -139,19 +140,19 @@ module _ (es : List Entry) (P : List ℕ)
 
 -- ---- of an accepted run, from any log
 
-module _ (magic floor : ℕ) (P F : List ℕ) (T : List Record) (bP : Bytes P) (bF : Bytes F) (ok : recoverOf (lent magic floor P F) T .answer .number ≡ 0) where
-  taken : Accepted (fullAt (length T)) magic floor P F
-  taken = zero-accepted magic floor P F T ok
+module _ (magic floor : ℕ) (br : Branches) (P F : List ℕ) (T : List Record) (bP : Bytes P) (bF : Bytes F) (ok : recoverOf (lent magic floor br P F) T .answer .number ≡ 0) where
+  taken : Accepted (fullAt (length T)) magic floor br P F
+  taken = zero-accepted magic floor br P F T ok
 
   abbrev after-run : List ℕ
-  after-run = recoverOf (lent magic floor P F) T .pages
+  after-run = recoverOf (lent magic floor br P F) T .pages
 
   long-after : (k : ℕ) → k < pagesIn P → length (mend (entries F) k (pageAt k P)) ≡ pageBytes
   unfolding mend
   long-after k l = page-long (committed (entries F)) (entries F) k (pageAt k P) (page-length P k l) (taken .roomy k l)
 
   pages-after : after-run ≡ mendedFrom (entries F) P (pagesIn P) 0
-  pages-after = recover-done magic floor P F T (recover-zero magic floor P F T ok) .1
+  pages-after = recover-done magic floor br P F T (recover-zero magic floor br P F T ok) .1
 
   size-after : length after-run ≡ length P
   size-after =
@@ -163,14 +164,14 @@ module _ (magic floor : ℕ) (P F : List ℕ) (T : List Record) (bP : Bytes P) (
   twice-after : (k : ℕ) → k < pagesIn P → mend (entries F) k (mend (entries F) k (pageAt k P)) ≡ mend (entries F) k (pageAt k P)
   twice-after k l =
       let s = size-after in
-      let r = again magic floor floor P F F bP bF bF ([], append-nil (entries F)) T T T refl refl ok after-run s (λ i m. inr refl) in
-      let b = zero-accepted magic floor after-run F T (ap (λ (a : Answer). a .number) (r .0) ∙ ok) in
-      let once = page-after magic floor P F T taken k l in
-      ap (mend (entries F) k) (sym once) ∙ sym (page-after magic floor after-run F T b k (omega arith)) ∙ ap (pageAt k) (r .1) ∙ once
+      let r = again magic floor floor br P F F bP bF bF ([], append-nil (entries F)) T T T refl refl ok after-run s (λ i m. inr refl) in
+      let b = zero-accepted magic floor br after-run F T (ap (λ (a : Answer). a .number) (r .0) ∙ ok) in
+      let once = page-after magic floor br P F T taken k l in
+      ap (mend (entries F) k) (sym once) ∙ sym (page-after magic floor br after-run F T b k (omega arith)) ∙ ap (pageAt k) (r .1) ∙ once
 
   -- a page of the list is as the run leaves it, another as it was lent
   pub page-stored : (is : List ℕ) → AllBelow (pagesIn P) is → (k : ℕ) → k < pagesIn P → Has k is → pageAt k (stored (entries F) is P) ≡ pageAt k after-run
-  page-stored is a k l h = stored-has (entries F) P long-after twice-after is P a (fresh (entries F) P long-after twice-after) k h ∙ sym (page-after magic floor P F T taken k l)
+  page-stored is a k l h = stored-has (entries F) P long-after twice-after is P a (fresh (entries F) P long-after twice-after) k h ∙ sym (page-after magic floor br P F T taken k l)
 
   pub page-left : (is : List ℕ) → AllBelow (pagesIn P) is → (k : ℕ) → (Has k is → ⊥) → pageAt k (stored (entries F) is P) ≡ pageAt k P
   page-left is a k n = stored-other (entries F) P long-after twice-after is P a (fresh (entries F) P long-after twice-after) k n

@@ -13,6 +13,7 @@ use Rattle.rules.specs.Mend.{topOf}
 use Rattle.rules.specs.Recover.{recoverOf}
 use Rattle.rules.specs.declared.Record.{Record}
 use Rattle.history.specs.History.{Step, loggedIn, run, Honest, start, ledger}
+use Rattle.rules.specs.Branch.{Branches}
 use Rattle.rules.specs.Lent.{lent}
 
 -- An honest history: its starting pages, its steps, and its log, whose entries are those that the steps logged, with nothing behind them: what a power failure tore and the zero
@@ -46,16 +47,16 @@ pub record Mixed (lent after Q : List ℕ) : Type 0 where
 
 pub record Demand3 (h : History) : Type 0 where
   -- What recovery leaves in each slot of each page of type 1 is what the ledger says, fed the whole entries found in the file.
-  pub exact : (magic floor : ℕ) (moment : ℕ → ℕ) (P : List ℕ) (c z : ℕ) (table : List Record) → Stands h moment P → HasFelt h moment P (file h c z)
-      → recoverOf (lent magic floor P (file h c z)) table .answer .number ≡ 0
+  pub exact : (magic floor : ℕ) (br : Branches) (moment : ℕ → ℕ) (P : List ℕ) (c z : ℕ) (table : List Record) → Stands h moment P → HasFelt h moment P (file h c z)
+      → recoverOf (lent magic floor br P (file h c z)) table .answer .number ≡ 0
       → (i k : ℕ) → i < pagesIn P → typeOf (pageAt i P) ≡ dataType
-      → slotAt (pageAt i (recoverOf (lent magic floor P (file h c z)) table .pages)) k ≡ ledger (h .pages) (entries (file h c z)) i k
+      → slotAt (pageAt i (recoverOf (lent magic floor br P (file h c z)) table .pages)) k ≡ ledger (h .pages) (entries (file h c z)) i k
   -- Where the run from a second file is accepted, it is accepted again, with the same answer, so the same offset and ending, and the same bytes, after a run from a first file was stopped anywhere
-  -- or refused; neither the second cut nor its file with the zeros is shorter than the first's. The runs take the same magic and as many records; the earlier may have had another floor. The
-  -- buffers are bytes.
-  pub repeats : (magic floor₁ floor : ℕ) (P : List ℕ) (c₁ z₁ c₂ z₂ : ℕ) (T₁ T₂ T₃ : List Record) → Bytes P → Bytes (h .log)
+  -- or refused; neither the second cut nor its file with the zeros is shorter than the first's. The runs take the same magic, the same two tables of branches and as many records; the earlier may
+  -- have had another floor. The buffers are bytes.
+  pub repeats : (magic floor₁ floor : ℕ) (br : Branches) (P : List ℕ) (c₁ z₁ c₂ z₂ : ℕ) (T₁ T₂ T₃ : List Record) → Bytes P → Bytes (h .log)
       → c₁ ≤ c₂ → length (file h c₁ z₁) ≤ length (file h c₂ z₂) → length T₁ ≡ length T₂ → length T₃ ≡ length T₂
-      → recoverOf (lent magic floor P (file h c₂ z₂)) T₂ .answer .number ≡ 0
-      → (Q : List ℕ) → Mixed P (recoverOf (lent magic floor₁ P (file h c₁ z₁)) T₁ .pages) Q
-      → (recoverOf (lent magic floor Q (file h c₂ z₂)) T₃ .answer ≡ recoverOf (lent magic floor P (file h c₂ z₂)) T₂ .answer)
-      × (recoverOf (lent magic floor Q (file h c₂ z₂)) T₃ .pages ≡ recoverOf (lent magic floor P (file h c₂ z₂)) T₂ .pages)
+      → recoverOf (lent magic floor br P (file h c₂ z₂)) T₂ .answer .number ≡ 0
+      → (Q : List ℕ) → Mixed P (recoverOf (lent magic floor₁ br P (file h c₁ z₁)) T₁ .pages) Q
+      → (recoverOf (lent magic floor br Q (file h c₂ z₂)) T₃ .answer ≡ recoverOf (lent magic floor br P (file h c₂ z₂)) T₂ .answer)
+      × (recoverOf (lent magic floor br Q (file h c₂ z₂)) T₃ .pages ≡ recoverOf (lent magic floor br P (file h c₂ z₂)) T₂ .pages)

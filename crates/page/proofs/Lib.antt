@@ -8,6 +8,7 @@ pub mod Packing
 pub mod Listing
 pub mod ListedRows
 pub mod RowLists
+pub mod Branches
 pub mod Searching
 pub mod RowBounds
 pub mod Visibility

@@ -118,6 +118,7 @@ pub record Standing (s : List ℕ) (r : Row) : Type 0 where
   pub long : rowHead ≤ r .length
   pub short : r .length ≤ longestTuple
   pub within : r .offset + r .length ≤ length s
+  pub tuple : part (r .offset) (r .length) s ≡ slotAt (pageAt (r .page .0) s) (r .slot)
   -- `&pages[a..e]` from behind its row header to its end
   pub payload : take (r .offset + r .length - (r .offset + rowHead)) (drop (r .offset + rowHead) s) ≡ rowPayload s r
 
@@ -159,6 +160,7 @@ module _ (shows : List ℕ → Bool) (none : shows [] ≡ false) (s : List ℕ) 
         long = l;
         short = omega (arith, tuple-length, filled .above, filled .within, good .start, good .startEnd);
         within = omega (arith, tuple-length, filled .within, h .lent);
+        tuple = tuple-here;
         payload = rw e (sym (drop-part rowHead o n s l) ∙ ap payloadOf tuple-here);
       }
 

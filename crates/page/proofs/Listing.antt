@@ -14,7 +14,7 @@ use types.Run.{OneOf, miss}
 use denote.Enum.Declared.{tagOf}
 use Rattle.endian.specs.Pick.{pick, consIf}
 use Rattle.page.specs.Layout.{dataType, pageAt, typeOf, countOf, slotAt}
-use Rattle.page.specs.Rows.{row, slotRows, pageRows, rowsFrom, visibleRows, atOrAfter, firstAt, nextRow, Listable}
+use Rattle.page.specs.Rows.{row, slotRows, pageRows, rowsFrom, visibleRows, atOrAfter, firstAt, ofBranch, nextRow, Listable}
 use Rattle.page.specs.Fault.{verdictOf}
 use Rattle.page.specs.declared.Row.{Row}
 use Rattle.page.specs.declared.NextRow.{NextRow}
@@ -213,11 +213,11 @@ module _ (shows : List ℕ → Bool) (i k : ℕ) where
 pub listable : (magic : ℕ) (s : List ℕ) → verdictOf magic s .number ≡ 0 → Listable s
 listable magic s e = record { at = λ i l t. accepted-good magic s 0 e i (omega arith) l .dataGood t }
 
-module _ (magic : ℕ) (s : List ℕ) (i k : ℕ) where
-  pub listing-refused : (verdictOf magic s .number ≡ 0 → ⊥) → Refused (verdictOf magic s) ≡ nextRow magic s i k
+module _ (magic : ℕ) (s owners : List ℕ) (b i k : ℕ) where
+  pub listing-refused : (verdictOf magic s .number ≡ 0 → ⊥) → Refused (verdictOf magic s) ≡ nextRow magic s owners b i k
   unfolding nextRow
   listing-refused h = rw (ne-eqb _ _ h)
 
-  pub listing-taken : verdictOf magic s .number ≡ 0 → firstAt i k (visibleRows s) ≡ nextRow magic s i k
+  pub listing-taken : verdictOf magic s .number ≡ 0 → firstAt i k (ofBranch owners b (visibleRows s)) ≡ nextRow magic s owners b i k
   unfolding nextRow
   listing-taken e = rw (eq-eqb _ _ e)

@@ -31,7 +31,7 @@ use Rattle.page.proofs.ListedRows.{Each, Standing, rows-stand}
 abbrev pub Before : ℕ → ℕ → Row → Type 0
 Before i k r = (i < r .page .0) ⊎ ((r .page .0 ≡ i) × (k ≤ r .slot))
 
-is-before : (i k : ℕ) (r : Row) → atOrAfter i k r ≡ true → Before i k r
+pub is-before : (i k : ℕ) (r : Row) → atOrAfter i k r ≡ true → Before i k r
 unfolding atOrAfter
 is-before i k r h = go (eqb (r .page .0) i) refl h
   where
@@ -44,7 +44,7 @@ unfolding atOrAfter
 before-is i k r (inl l) = simp (ne-eqb (r .page .0) i (λ e. absurd (omega arith)), lt-ltb i (r .page .0) l)
 before-is i k r (inr p) = simp (eq-eqb (r .page .0) i (p .0), le-leb k (r .slot) (p .1))
 
-not-before : (i k : ℕ) (r : Row) → (Before i k r → ⊥) → atOrAfter i k r ≡ false
+pub not-before : (i k : ℕ) (r : Row) → (Before i k r → ⊥) → atOrAfter i k r ≡ false
 not-before i k r h = go (atOrAfter i k r) refl
   where
     go : (t : Bool) → atOrAfter i k r ≡ t → t ≡ false
@@ -195,21 +195,32 @@ head-none : (l : List Row) → OneOf (0 ∷ 2 ∷ []) (tagOf the-type (headRow l
 head-none [] o = refl
 head-none (r ∷ l) o = absurd (miss (0 ∷ 2 ∷ []) 1 tt o)
 
-module _ (shows : List ℕ → Bool) (s : List ℕ) (i k : ℕ) where
-  -- a search meets a row, and goes on behind it
-  pub row-next : (r : Row) → firstAt i k (rowsOf shows s) ≡ At r → rowsAt i k (rowsOf shows s) ≡ r ∷ rowsAt (r .page .0) (r .slot + 1) (rowsOf shows s)
-  row-next r e =
-      let h : rowsAt i k (rowsOf shows s) ≡ r ∷ tailOf (rowsAt i k (rowsOf shows s)) = head-at (rowsAt i k (rowsOf shows s)) r (sym (first-is i k (rowsOf shows s)) ∙ e) in
+module _ (rs : List Row) (i k : ℕ) where
+  -- a search meets a row of some in their order, and goes on behind it
+  pub row-behind : Rising 0 0 rs → (r : Row) → firstAt i k rs ≡ At r → rowsAt i k rs ≡ r ∷ rowsAt (r .page .0) (r .slot + 1) rs
+  row-behind up r e =
+      let h : rowsAt i k rs ≡ r ∷ tailOf (rowsAt i k rs) = head-at (rowsAt i k rs) r (sym (first-is i k rs) ∙ e) in
       let z : suc (r .slot) ≡ r .slot + 1 = omega arith in
-      h ∙ ap (λ (x : List Row). r ∷ x) (rw (← z) (goes-on i k r (tailOf (rowsAt i k (rowsOf shows s))) 0 0 (rowsOf shows s) (rising-pages shows s (pagesIn s) 0) h))
+      h ∙ ap (λ (x : List Row). r ∷ x) (rw (← z) (goes-on i k r (tailOf (rowsAt i k rs)) 0 0 rs up h))
 
   -- or meets none, as a `let .. else` finds it
+  pub row-end : (x : NextRow) → x ≡ firstAt i k rs → OneOf (0 ∷ 2 ∷ []) (tagOf the-type x) → rowsAt i k rs ≡ []
+  row-end x e o = head-none (rowsAt i k rs) (rw (e ∙ first-is i k rs) at o)
+
+  pub first-none : (x : NextRow) → x ≡ firstAt i k rs → OneOf (0 ∷ 2 ∷ []) (tagOf the-type x) → firstAt i k rs ≡ NoMore
+  first-none x e o = first-is i k rs ∙ ap headRow (row-end x e o)
+
+-- of a listing of all pages
+module _ (shows : List ℕ → Bool) (s : List ℕ) (i k : ℕ) where
+  pub row-next : (r : Row) → firstAt i k (rowsOf shows s) ≡ At r → rowsAt i k (rowsOf shows s) ≡ r ∷ rowsAt (r .page .0) (r .slot + 1) (rowsOf shows s)
+  row-next r e = row-behind (rowsOf shows s) i k (rising-pages shows s (pagesIn s) 0) r e
+
   pub row-none : (x : NextRow) → x ≡ firstAt i k (rowsOf shows s) → OneOf (0 ∷ 2 ∷ []) (tagOf the-type x) → rowsAt i k (rowsOf shows s) ≡ []
-  row-none x e o = head-none (rowsAt i k (rowsOf shows s)) (rw (e ∙ first-is i k (rowsOf shows s)) at o)
+  row-none x e o = row-end (rowsOf shows s) i k x e o
 
 -- ---- a property of all rows of a listing is one of a row that is met
 
-each-first : (P : Row → Type 0) (i k : ℕ) (r : Row) (rs : List Row) → Each P rs → firstAt i k rs ≡ At r → P r
+pub each-first : (P : Row → Type 0) (i k : ℕ) (r : Row) (rs : List Row) → Each P rs → firstAt i k rs ≡ At r → P r
 unfolding firstAt
 each-first P i k r [] u e = let z : _≡_ {A = ℕ} 0 1 = cc in absurd (omega arith)
 each-first P i k r (q ∷ rs) u e = go (atOrAfter i k q) (each-first P i k r rs (u .1)) e
@@ -241,9 +252,9 @@ row-stored d at r l =
     rw (a, b, c) (sets-eq (numbersOf r) d at l)
 
 -- from slot k₀ of page i₀ on some rows were given and stored as m numbers, and slot k of page i is where to go on
-pub record Given (shows : List ℕ → Bool) (s out₀ : List ℕ) (i₀ k₀ i k m : ℕ) (out : List ℕ) : Type 0 where
+pub record Given (rs : List Row) (out₀ : List ℕ) (i₀ k₀ i k m : ℕ) (out : List ℕ) : Type 0 where
   pub done : List Row
-  pub goes : done ++ rowsAt i k (rowsOf shows s) ≡ rowsAt i₀ k₀ (rowsOf shows s)
+  pub goes : done ++ rowsAt i k rs ≡ rowsAt i₀ k₀ rs
   pub stored : out ≡ numbersOfAll done ++ drop m out₀
   pub many : m ≡ numbersPerRow * length done
   pub room : m ≤ length out₀
@@ -255,45 +266,45 @@ cut all done rest n e (inr p) =
     let z : all ≡ done = sym e ∙ ap (λ (x : List Row). done ++ x) (p .0) ∙ append-nil done in
     rw (z, p .0) (take-all n done (p .1), drop-of-length-le done (p .1))
 
-module _ (shows : List ℕ → Bool) (s out₀ : List ℕ) (i₀ k₀ : ℕ) where
-  pub given-none : Given shows s out₀ i₀ k₀ i₀ k₀ 0 out₀
+module _ (rs : List Row) (out₀ : List ℕ) (i₀ k₀ : ℕ) where
+  pub given-none : Given rs out₀ i₀ k₀ i₀ k₀ 0 out₀
   given-none = record { done = []; goes = refl; stored = refl; many = refl; room = omega arith }
 
-  module _ {i k m : ℕ} {out : List ℕ} (g : Given shows s out₀ i₀ k₀ i k m out) where
+  module _ {i k m : ℕ} {out : List ℕ} (g : Given rs out₀ i₀ k₀ i k m out) where
     pub given-length : length out ≡ length out₀
     given-length = ap length (g .stored) ∙ length-append (numbersOfAll (g .done)) (drop m out₀) ∙ simp (length-numbers, length-drop) (omega (arith, g .many, g .room))
 
-    pub given-more : (r : Row) (new : List ℕ) → firstAt i k (rowsOf shows s) ≡ At r → m + numbersPerRow ≤ length out₀ → new ≡ paste out m (numbersOf r) numbersPerRow
-        → Given shows s out₀ i₀ k₀ (r .page .0) (r .slot + 1) (m + numbersPerRow) new
-    given-more r new e l h =
+    pub given-more : Rising 0 0 rs → (r : Row) (new : List ℕ) → firstAt i k rs ≡ At r → m + numbersPerRow ≤ length out₀ → new ≡ paste out m (numbersOf r) numbersPerRow
+        → Given rs out₀ i₀ k₀ (r .page .0) (r .slot + 1) (m + numbersPerRow) new
+    given-more up r new e l h =
         let front : length (numbersOfAll (g .done)) ≡ m = length-numbers (g .done) ∙ sym (g .many) in
         let t : take m out ≡ numbersOfAll (g .done) = ap (take m) (g .stored) ∙ take-at (numbersOfAll (g .done)) (drop m out₀) m front in
         let d : drop (m + numbersPerRow) out ≡ drop (m + numbersPerRow) out₀ =
         sym (drop-drop numbersPerRow m out) ∙ ap (λ (x : List ℕ). drop numbersPerRow (drop m x)) (g .stored) ∙ ap (drop numbersPerRow) (drop-at (numbersOfAll (g .done)) (drop m out₀) m front) ∙ drop-drop numbersPerRow m out₀ in
         record {
           done = g .done ++ (r ∷ []);
-          goes = append-assoc (g .done) (r ∷ []) (rowsAt (r .page .0) (r .slot + 1) (rowsOf shows s)) ∙ ap (λ (x : List Row). g .done ++ x) (sym (row-next shows s i k r e)) ∙ g .goes;
+          goes = append-assoc (g .done) (r ∷ []) (rowsAt (r .page .0) (r .slot + 1) rs) ∙ ap (λ (x : List Row). g .done ++ x) (sym (row-behind rs i k up r e)) ∙ g .goes;
           stored = h ∙ rw (t, d, numbers-append (g .done) (r ∷ []));
           many = omega (arith, g .many, length-append (g .done) (r ∷ []));
           room = l;
         }
 
     -- what is given back in the end
-    answer : (rest : List Row) → rowsAt i k (rowsOf shows s) ≡ rest → (length (g .done) ≡ length out₀ / numbersPerRow) ⊎ ((rest ≡ []) × (length (g .done) ≤ length out₀ / numbersPerRow))
-        → (listed (m / numbersPerRow) (pagesIn s) rest ≡ listOf s (rowsOf shows s) i₀ k₀ (length out₀ / numbersPerRow)) × (out ≡ listAfter (rowsOf shows s) i₀ k₀ out₀)
+    answer : (s : List ℕ) (rest : List Row) → rowsAt i k rs ≡ rest → (length (g .done) ≡ length out₀ / numbersPerRow) ⊎ ((rest ≡ []) × (length (g .done) ≤ length out₀ / numbersPerRow))
+        → (listed (m / numbersPerRow) (pagesIn s) rest ≡ listOf s rs i₀ k₀ (length out₀ / numbersPerRow)) × (out ≡ listAfter rs i₀ k₀ out₀)
     unfolding listOf listAfter
-    answer rest e c =
-        let p = cut (rowsAt i₀ k₀ (rowsOf shows s)) (g .done) rest (length out₀ / numbersPerRow) (ap (λ (x : List Row). g .done ++ x) (sym e) ∙ g .goes) c in
+    answer s rest e c =
+        let p = cut (rowsAt i₀ k₀ rs) (g .done) rest (length out₀ / numbersPerRow) (ap (λ (x : List Row). g .done ++ x) (sym e) ∙ g .goes) c in
         let n : m / numbersPerRow ≡ length (g .done) = omega (arith, g .many) in
         (rw (p .0, p .1, n), rw (p .0) (g .stored ∙ ap (λ (x : ℕ). numbersOfAll (g .done) ++ drop x out₀) (g .many)))
 
-    pub given-end : rowsAt i k (rowsOf shows s) ≡ []
-        → (listed (m / numbersPerRow) (pagesIn s) [] ≡ listOf s (rowsOf shows s) i₀ k₀ (length out₀ / numbersPerRow)) × (out ≡ listAfter (rowsOf shows s) i₀ k₀ out₀)
-    given-end e = answer [] e (inr (refl, omega (arith, g .many, g .room)))
+    pub given-end : (s : List ℕ) → rowsAt i k rs ≡ []
+        → (listed (m / numbersPerRow) (pagesIn s) [] ≡ listOf s rs i₀ k₀ (length out₀ / numbersPerRow)) × (out ≡ listAfter rs i₀ k₀ out₀)
+    given-end s e = answer s [] e (inr (refl, omega (arith, g .many, g .room)))
 
-    pub given-full : (r : Row) → firstAt i k (rowsOf shows s) ≡ At r → length out₀ < m + numbersPerRow
-        → (listed (m / numbersPerRow) (pagesIn s) (r ∷ []) ≡ listOf s (rowsOf shows s) i₀ k₀ (length out₀ / numbersPerRow)) × (out ≡ listAfter (rowsOf shows s) i₀ k₀ out₀)
-    given-full r e l = answer (r ∷ rowsAt (r .page .0) (r .slot + 1) (rowsOf shows s)) (row-next shows s i k r e) (inl (omega (arith, g .many, g .room)))
+    pub given-full : (s : List ℕ) → Rising 0 0 rs → (r : Row) → firstAt i k rs ≡ At r → length out₀ < m + numbersPerRow
+        → (listed (m / numbersPerRow) (pagesIn s) (r ∷ []) ≡ listOf s rs i₀ k₀ (length out₀ / numbersPerRow)) × (out ≡ listAfter rs i₀ k₀ out₀)
+    given-full s up r e l = answer s (r ∷ rowsAt (r .page .0) (r .slot + 1) rs) (row-behind rs i k up r e) (inl (omega (arith, g .many, g .room)))
 
 -- ---- the whole answer
 

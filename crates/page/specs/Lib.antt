@@ -3,6 +3,7 @@ pub mod Packed
 pub mod Good
 pub mod Fault
 pub mod Granules
+pub mod Branch
 pub mod Rows
 pub mod FreeMap
 pub mod Writer

@@ -1,4 +1,4 @@
--- Visible rows (paper 01, Numbers given back; paper 02, W2), and the cancelled ones.
+-- Visible rows (paper 01, Numbers given back; paper 02, W2 and W13), and the cancelled ones.
 use Prim.Native.Nat.{ℕ, zero, suc, _+_, _*_, _/_, _<_}
 use mathlib.Core.Path.{_≡_}
 use mathlib.Core.List.{List, [], _∷_, _++_}
@@ -7,6 +7,7 @@ use lib.ListN.{length, take, drop}
 use lib.Dec.{ltb, leb, eqb}
 use Rattle.endian.specs.Pick.{pick, consIf}
 use Rattle.page.specs.Layout.{dataType, pagesIn, pageAt, typeOf, countOf, slotAt, tupleOffset, xmaxOf, deletedOf, payloadOf}
+use Rattle.page.specs.Branch.{belongs}
 use Rattle.page.specs.Fault.{verdictOf}
 use Rattle.refusals.specs.Verdict.{accepted}
 use Rattle.refusals.specs.declared.Verdict.{Verdict}
@@ -57,6 +58,11 @@ visibleRows s = rowsOf visible s
 abbrev pub cancelledRows : List ℕ → List Row
 cancelledRows s = rowsOf cancelled s
 
+-- those of some rows that stand on pages of a branch
+unfoldable pub ofBranch : List ℕ → ℕ → List Row → List Row
+ofBranch owners branch [] = []
+ofBranch owners branch (r ∷ rs) = consIf (belongs owners branch (r .page .0)) r (ofBranch owners branch rs)
+
 -- a row stands at or after slot k of page i
 unfoldable pub atOrAfter : ℕ → ℕ → Row → Bool
 atOrAfter i k r = pick (eqb (r .page .0) i) (leb k (r .slot)) (ltb i (r .page .0))
@@ -75,10 +81,11 @@ rowsAt i k (r ∷ rs) = consIf (atOrAfter i k r) r (rowsAt i k rs)
 abbrev pub unlessRefused : Verdict → NextRow → NextRow
 unlessRefused v r = pick (eqb (v .number) 0) r (Refused v)
 
-unfoldable pub nextRow : ℕ → List ℕ → ℕ → ℕ → NextRow
-nextRow magic s i k = unlessRefused (verdictOf magic s) (firstAt i k (visibleRows s))
+-- the listing for a branch
+unfoldable pub nextRow : ℕ → List ℕ → List ℕ → ℕ → ℕ → ℕ → NextRow
+nextRow magic s owners branch i k = unlessRefused (verdictOf magic s) (firstAt i k (ofBranch owners branch (visibleRows s)))
 
--- ---- a search (paper 02, W7 and below)
+-- ---- a search (paper 02, W7 and below), over the pages of all branches
 
 -- the payload of a row of a page area
 abbrev pub rowPayload : List ℕ → Row → List ℕ

@@ -3,13 +3,14 @@ ghost use mathlib.Core.Path.{_≡_};
 ghost use Rattle.page.specs.Fault.{verdictFrom, verdictOf};
 ghost use Prim.Native.Nat.{_/_};
 ghost use lib.ListN.{length};
-ghost use Rattle.page.specs.Rows.{shown, rowsOf, visibleRows, cancelledRows, nextRow, numbersPerRow, rowList, rowsAfter};
+ghost use Rattle.page.specs.Rows.{shown, rowsOf, visibleRows, cancelledRows, ofBranch, nextRow, numbersPerRow, rowList, rowsAfter};
 ghost use Rattle.page.specs.FreeMap.{mapVerdict, freeCount, mapAfter};
 use endian::Lsn;
 use endian::PageNumber;
 use refusals::MAP_SHORT;
 use refusals::Verdict;
 
+pub mod branch;
 mod faults;
 mod granules;
 pub mod inner;
@@ -130,28 +131,37 @@ pub fn verify_from(magic: u64, pages: &[u8], first: PageNumber) -> Verdict
     inner::verify_from(&t, magic, pages, first.0 as usize)
 }
 
-// The first visible row at or after a slot of a page. Refuses as `verify` does.
-pub fn next_visible(magic: u64, pages: &[u8], page: PageNumber, slot: usize) -> NextRow
-    ensures { λ r. ⌜ r ≡ nextRow magic (now (pages .entry)) (page .0) slot ⌝ }
+// The first visible row on a page of a branch, at or after a slot of a page; `owners` has the branch of each page. Refuses as `verify` does.
+pub fn next_visible(
+    magic: u64,
+    pages: &[u8],
+    owners: &[u64],
+    branch: u64,
+    page: PageNumber,
+    slot: usize,
+) -> NextRow
+    ensures { λ r. ⌜ r ≡ nextRow magic (now (pages .entry)) (now (owners .entry)) branch (page .0) slot ⌝ }
 {
     let v = verify(magic, pages);
     if v.number != 0 {
         return NextRow::Refused(v);
     }
-    inner::next_row(pages, page.0 as usize, slot)
+    branch::next_of_branch(pages, true, owners, branch, page.0 as usize, slot)
 }
 
-// Lists live rows, which are the visible ones, or cancelled ones.
+// Lists a branch's live rows, which are the visible ones, or cancelled ones.
 fn list_rows(
     magic: u64,
     pages: &[u8],
     live: bool,
+    owners: &[u64],
+    branch: u64,
     page: PageNumber,
     slot: usize,
     out: &mut [u64],
 ) -> RowList
-    ensures { λ r. ⌜ r ≡ rowList magic (now (pages .entry)) (rowsOf (shown live) (now (pages .entry))) (page .0) slot (length (now (out .entry)) / numbersPerRow) ⌝ }
-    ensures { λ _. ⌜ now (out .exit) ≡ rowsAfter magic (now (pages .entry)) (rowsOf (shown live) (now (pages .entry))) (page .0) slot (now (out .entry)) ⌝ }
+    ensures { λ r. ⌜ r ≡ rowList magic (now (pages .entry)) (ofBranch (now (owners .entry)) branch (rowsOf (shown live) (now (pages .entry)))) (page .0) slot (length (now (out .entry)) / numbersPerRow) ⌝ }
+    ensures { λ _. ⌜ now (out .exit) ≡ rowsAfter magic (now (pages .entry)) (ofBranch (now (owners .entry)) branch (rowsOf (shown live) (now (pages .entry)))) (page .0) slot (now (out .entry)) ⌝ }
 {
     let v = verify(magic, pages);
     if v.number != 0 {
@@ -162,37 +172,41 @@ fn list_rows(
             slot: 0,
         };
     }
-    list::fill(pages, live, page.0 as usize, slot, out)
+    list::fill(pages, live, owners, branch, page.0 as usize, slot, out)
 }
 
-// Fills the lent numbers with the visible rows at or after a slot of a page, four numbers a row: page, slot, length, offset in the page area; verifies the pages once. Gives
-// back how many rows there are, and the place of the first that found no room, or the count of pages and 0 where all are given. Refuses as `verify` does, which leaves the
+// Fills the lent numbers with the visible rows of a branch at or after a slot of a page, four numbers a row: page, slot, length, offset in the page area; verifies the pages
+// once. Gives back how many rows there are, and the place of the first that found no room, or the count of pages and 0 where all are given. Refuses as `verify` does, which leaves the
 // numbers as they are.
 pub fn list_visible(
     magic: u64,
     pages: &[u8],
+    owners: &[u64],
+    branch: u64,
     page: PageNumber,
     slot: usize,
     out: &mut [u64],
 ) -> RowList
-    ensures { λ r. ⌜ r ≡ rowList magic (now (pages .entry)) (visibleRows (now (pages .entry))) (page .0) slot (length (now (out .entry)) / numbersPerRow) ⌝ }
-    ensures { λ _. ⌜ now (out .exit) ≡ rowsAfter magic (now (pages .entry)) (visibleRows (now (pages .entry))) (page .0) slot (now (out .entry)) ⌝ }
+    ensures { λ r. ⌜ r ≡ rowList magic (now (pages .entry)) (ofBranch (now (owners .entry)) branch (visibleRows (now (pages .entry)))) (page .0) slot (length (now (out .entry)) / numbersPerRow) ⌝ }
+    ensures { λ _. ⌜ now (out .exit) ≡ rowsAfter magic (now (pages .entry)) (ofBranch (now (owners .entry)) branch (visibleRows (now (pages .entry)))) (page .0) slot (now (out .entry)) ⌝ }
 {
-    list_rows(magic, pages, true, page, slot, out)
+    list_rows(magic, pages, true, owners, branch, page, slot, out)
 }
 
 // The same of the cancelled rows: those that `list_visible` passes over.
 pub fn list_cancelled(
     magic: u64,
     pages: &[u8],
+    owners: &[u64],
+    branch: u64,
     page: PageNumber,
     slot: usize,
     out: &mut [u64],
 ) -> RowList
-    ensures { λ r. ⌜ r ≡ rowList magic (now (pages .entry)) (cancelledRows (now (pages .entry))) (page .0) slot (length (now (out .entry)) / numbersPerRow) ⌝ }
-    ensures { λ _. ⌜ now (out .exit) ≡ rowsAfter magic (now (pages .entry)) (cancelledRows (now (pages .entry))) (page .0) slot (now (out .entry)) ⌝ }
+    ensures { λ r. ⌜ r ≡ rowList magic (now (pages .entry)) (ofBranch (now (owners .entry)) branch (cancelledRows (now (pages .entry)))) (page .0) slot (length (now (out .entry)) / numbersPerRow) ⌝ }
+    ensures { λ _. ⌜ now (out .exit) ≡ rowsAfter magic (now (pages .entry)) (ofBranch (now (owners .entry)) branch (cancelledRows (now (pages .entry)))) (page .0) slot (now (out .entry)) ⌝ }
 {
-    list_rows(magic, pages, false, page, slot, out)
+    list_rows(magic, pages, false, owners, branch, page, slot, out)
 }
 
 // Writes the map of free pages: bit i, lowest bit first, is 1 exactly if page i is free; needed bytes whole, spare bits 0. Refuses as `verify` does,

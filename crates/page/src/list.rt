@@ -3,12 +3,12 @@ ghost use mathlib.Core.Path.{_≡_};
 ghost use Prim.Native.Nat.{_+_, _/_, _≤_};
 ghost use lib.ListN.{length};
 ghost use lib.Seq.{paste};
-ghost use Rattle.page.specs.Rows.{Listable, shown, rowsOf, numbersOf, numbersPerRow, listOf, listAfter};
+ghost use Rattle.page.specs.Rows.{Listable, shown, rowsOf, ofBranch, numbersOf, numbersPerRow, listOf, listAfter};
 use crate::NextRow;
 use crate::PAGE_BYTES;
 use crate::Row;
 use crate::RowList;
-use crate::inner::next_shown;
+use crate::branch::next_of_branch;
 use endian::PageNumber;
 use refusals::Verdict;
 
@@ -41,17 +41,25 @@ fn row_list(count: usize, page: PageNumber, slot: usize) -> RowList
     }
 }
 
-// Fills the lent numbers with the rows at or after a slot of the page at an index that a listing shows, on pages that were verified.
-pub fn fill(pages: &[u8], live: bool, index: usize, slot: usize, out: &mut [u64]) -> RowList
+// Fills the lent numbers with the rows of a branch at or after a slot of the page at an index that a listing shows, on pages that were verified.
+pub fn fill(
+    pages: &[u8],
+    live: bool,
+    owners: &[u64],
+    branch: u64,
+    index: usize,
+    slot: usize,
+    out: &mut [u64],
+) -> RowList
     requires { ⌜ Listable (now pages) ⌝ }
-    ensures { λ r. ⌜ r ≡ listOf (now (pages .entry)) (rowsOf (shown live) (now (pages .entry))) index slot (length (now (out .entry)) / numbersPerRow) ⌝ }
-    ensures { λ _. ⌜ now (out .exit) ≡ listAfter (rowsOf (shown live) (now (pages .entry))) index slot (now (out .entry)) ⌝ }
+    ensures { λ r. ⌜ r ≡ listOf (now (pages .entry)) (ofBranch (now (owners .entry)) branch (rowsOf (shown live) (now (pages .entry)))) index slot (length (now (out .entry)) / numbersPerRow) ⌝ }
+    ensures { λ _. ⌜ now (out .exit) ≡ listAfter (ofBranch (now (owners .entry)) branch (rowsOf (shown live) (now (pages .entry)))) index slot (now (out .entry)) ⌝ }
 {
     let mut i = index;
     let mut k = slot;
     let mut m: usize = 0;
     loop {
-        let next = next_shown(pages, live, i, k);
+        let next = next_of_branch(pages, live, owners, branch, i, k);
         let NextRow::At(row) = next else {
             return row_list(
                 m / ROW_NUMBERS,

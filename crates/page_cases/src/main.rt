@@ -274,7 +274,8 @@ fn area() -> [u8; 49152] {
 fn show_row(pages: &[u8], i: u64, k: usize) {
     number(b"rows from ", i);
     number(b", ", k as u64);
-    let r = page::next_visible(MAGIC, pages, PageNumber(i), k);
+    let owners = [1u64; 8];
+    let r = page::next_visible(MAGIC, pages, &owners, 1, PageNumber(i), k);
     match r {
         NextRow::Refused(v) => number(b": refused by ", v.number),
         NextRow::At(w) => {
@@ -324,14 +325,16 @@ fn show_answer(name: &[u8], i: u64, k: usize, l: RowList) {
 
 // What a listing gives back, and the numbers that it was lent.
 fn show_list(pages: &[u8], i: u64, k: usize, rows: &mut [u64]) {
-    let l = page::list_visible(MAGIC, pages, PageNumber(i), k, rows);
+    let owners = [1u64; 8];
+    let l = page::list_visible(MAGIC, pages, &owners, 1, PageNumber(i), k, rows);
     show_answer(b"list from ", i, k, l);
     show_nine(rows);
 }
 
 // The same of the cancelled rows.
 fn show_cancelled(pages: &[u8], i: u64, k: usize, rows: &mut [u64]) {
-    let l = page::list_cancelled(MAGIC, pages, PageNumber(i), k, rows);
+    let owners = [1u64; 8];
+    let l = page::list_cancelled(MAGIC, pages, &owners, 1, PageNumber(i), k, rows);
     show_answer(b"cancelled from ", i, k, l);
     show_nine(rows);
 }

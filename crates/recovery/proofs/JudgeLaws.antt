@@ -4,7 +4,7 @@ use mathlib.Core.Path.{_≡_, refl, sym, ap, _∙_}
 use mathlib.Core.Bool.{Bool, true, false}
 use mathlib.Core.List.{List, [], _∷_, _++_, append-assoc, append-nil}
 use native.Mathlib.Omega.{arith}
-use lib.Dec.{ltb, leb}
+use lib.Dec.{ltb, leb, eqb}
 use borrow.Author.Tests.{eq-eqb, ne-eqb, lt-ltb, le-ltb, leb-false}
 use Rattle.endian.specs.Pick.{pick}
 use Rattle.wal.specs.Entry.{Entry, sizeOf}
@@ -16,12 +16,14 @@ use Rattle.page.specs.Fault.{sizeWrong}
 use Rattle.refusals.specs.declared.Verdict.{Verdict}
 use Rattle.rules.specs.Shape.{both, isKnown, isShaped}
 use Rattle.rules.specs.Order.{one, count, any, isBegin, lastLsn, inOrder, clashes, fullAt, neverFull, faultAfter, orElse, orderFrom, logVerdict}
-use Rattle.rules.specs.Recover.{pagesFrom, strayFrom, tightFrom, recoverVerdict}
+use Rattle.rules.specs.Recover.{pagesFrom, strayFrom, foreignFrom, tightFrom, recoverVerdict}
+use Rattle.recovery.specs.Judgement.{changesVerdict}
 use Rattle.rules.proofs.Tests.{into, past}
 use Rattle.rules.proofs.OrderLaws.{InTurn, in-turn}
 use Rattle.refusals.proofs.Then.{then-refused, then-accepted, then-zero}
 use Rattle.order.specs.First.{told}
 use Rattle.fates.specs.Fate.{Ordered}
+use Rattle.rules.specs.Branch.{Branches}
 use Rattle.rules.specs.Lent.{lent}
 
 -- a number other than 0 is told as it is
@@ -88,48 +90,77 @@ pub begins-fit : (records : ℕ) (log : List ℕ) → logVerdict (fullAt records
 begins-fit records log h = begins-few records [] (entries log) (in-turn (fullAt records) [] (entries log) first (order-ok (fullAt records) log h)) (omega arith)
 
 -- ---- refusal by refusal
-module _ (full : ℕ → Bool) (magic floor : ℕ) (pages log : List ℕ) where
-  pub judge-size : sizeWrong pages ≡ true → verdict 1 0 ≡ recoverVerdict full (lent magic floor pages log)
+
+then-assoc : (u v w : Verdict) → ((u then v) then w) ≡ (u then (v then w))
+then-assoc u v w = go (eqb (u .number) 0) refl
+  where
+    go : (t : Bool) → eqb (u .number) 0 ≡ t → pick (eqb (pick t v u .number) 0) w (pick t v u) ≡ pick t (pick (eqb (v .number) 0) w v) u
+    go true e = refl
+    go false e = rw e
+
+module _ (full : ℕ → Bool) (magic floor : ℕ) (br : Branches) (pages log : List ℕ) where
+  pub judge-size : sizeWrong pages ≡ true → verdict 1 0 ≡ recoverVerdict full (lent magic floor br pages log)
   unfolding recoverVerdict
   judge-size h = sym (rw h)
 
   module _ (size : sizeWrong pages ≡ false) where
-    past-size : recoverVerdict full (lent magic floor pages log)
-        ≡ (logVerdict full log then pagesFrom magic floor (lastLsn (entries log)) pages (pagesIn pages) 0 then strayFrom pages (entries log) first then tightFrom (entries log) pages (pagesIn pages) 0)
+    past-size : recoverVerdict full (lent magic floor br pages log)
+        ≡ (logVerdict full log then pagesFrom magic floor (lastLsn (entries log)) pages (pagesIn pages) 0 then strayFrom pages (entries log) first then foreignFrom br (entries log) first then tightFrom (entries log) pages (pagesIn pages) 0)
     unfolding recoverVerdict
     past-size = rw size
 
-    pub judge-log : (v : Verdict) → v ≡ logVerdict full log → (v .number ≡ 0 → ⊥) → v ≡ recoverVerdict full (lent magic floor pages log)
+    pub judge-log : (v : Verdict) → v ≡ logVerdict full log → (v .number ≡ 0 → ⊥) → v ≡ recoverVerdict full (lent magic floor br pages log)
     judge-log v e n = sym (past-size ∙ rw (← e) (then-refused v _ n))
 
     module _ (logOk : logVerdict full log .number ≡ 0) where
-      past-log : recoverVerdict full (lent magic floor pages log)
-          ≡ (pagesFrom magic floor (lastLsn (entries log)) pages (pagesIn pages) 0 then strayFrom pages (entries log) first then tightFrom (entries log) pages (pagesIn pages) 0)
+      past-log : recoverVerdict full (lent magic floor br pages log)
+          ≡ (pagesFrom magic floor (lastLsn (entries log)) pages (pagesIn pages) 0 then strayFrom pages (entries log) first then foreignFrom br (entries log) first then tightFrom (entries log) pages (pagesIn pages) 0)
       past-log = past-size ∙ then-accepted (logVerdict full log) _ logOk
 
-      pub judge-pages : (v : Verdict) → v ≡ pagesFrom magic floor (lastLsn (entries log)) pages (pagesIn pages) 0 → (v .number ≡ 0 → ⊥) → v ≡ recoverVerdict full (lent magic floor pages log)
+      pub judge-pages : (v : Verdict) → v ≡ pagesFrom magic floor (lastLsn (entries log)) pages (pagesIn pages) 0 → (v .number ≡ 0 → ⊥) → v ≡ recoverVerdict full (lent magic floor br pages log)
       judge-pages v e n = sym (past-log ∙ rw (← e) (then-refused v _ n))
 
       module _ (pagesOk : pagesFrom magic floor (lastLsn (entries log)) pages (pagesIn pages) 0 .number ≡ 0) where
-        past-pages : recoverVerdict full (lent magic floor pages log) ≡ (strayFrom pages (entries log) first then tightFrom (entries log) pages (pagesIn pages) 0)
-        past-pages = past-log ∙ then-accepted (pagesFrom magic floor (lastLsn (entries log)) pages (pagesIn pages) 0) _ pagesOk
+        past-pages : recoverVerdict full (lent magic floor br pages log) ≡ (changesVerdict pages br (entries log) then tightFrom (entries log) pages (pagesIn pages) 0)
+        past-pages =
+            past-log ∙ then-accepted (pagesFrom magic floor (lastLsn (entries log)) pages (pagesIn pages) 0) _ pagesOk
+            ∙ sym (then-assoc (strayFrom pages (entries log) first) (foreignFrom br (entries log) first) (tightFrom (entries log) pages (pagesIn pages) 0))
 
-        pub judge-stray : (at end : ℕ) → at < end → strayFrom pages (entries log) first ≡ pick (ltb at end) (verdict 13 at) accepted → verdict 13 at ≡ recoverVerdict full (lent magic floor pages log)
-        judge-stray at end l e =
-            let z : strayFrom pages (entries log) first ≡ verdict 13 at = e ∙ rw (lt-ltb at end l) in
-            sym (past-pages ∙ rw z)
+        pub judge-changes : (v : Verdict) → v ≡ changesVerdict pages br (entries log) → (v .number ≡ 0 → ⊥) → v ≡ recoverVerdict full (lent magic floor br pages log)
+        judge-changes v e n = sym (past-pages ∙ rw (← e) (then-refused v _ n))
 
-        module _ (strayOk : strayFrom pages (entries log) first .number ≡ 0) where
-          past-stray : recoverVerdict full (lent magic floor pages log) ≡ tightFrom (entries log) pages (pagesIn pages) 0
-          past-stray = past-pages ∙ then-accepted (strayFrom pages (entries log) first) _ strayOk
+        module _ (changesOk : changesVerdict pages br (entries log) .number ≡ 0) where
+          past-changes : recoverVerdict full (lent magic floor br pages log) ≡ tightFrom (entries log) pages (pagesIn pages) 0
+          past-changes = past-pages ∙ then-accepted (changesVerdict pages br (entries log)) _ changesOk
 
-          pub judge-tight : (i : ℕ) → i < pagesIn pages → tightFrom (entries log) pages (pagesIn pages) 0 ≡ pick (ltb i (pagesIn pages)) (verdict 14 i) accepted → verdict 14 i ≡ recoverVerdict full (lent magic floor pages log)
-          judge-tight i l e = sym (past-stray ∙ e ∙ rw (lt-ltb i (pagesIn pages) l))
+          pub judge-tight : (i : ℕ) → i < pagesIn pages → tightFrom (entries log) pages (pagesIn pages) 0 ≡ pick (ltb i (pagesIn pages)) (verdict 14 i) accepted → verdict 14 i ≡ recoverVerdict full (lent magic floor br pages log)
+          judge-tight i l e = sym (past-changes ∙ e ∙ rw (lt-ltb i (pagesIn pages) l))
 
-          pub judge-done : (i : ℕ) → pagesIn pages ≤ i → tightFrom (entries log) pages (pagesIn pages) 0 ≡ pick (ltb i (pagesIn pages)) (verdict 14 i) accepted → accepted ≡ recoverVerdict full (lent magic floor pages log)
-          judge-done i l e = sym (past-stray ∙ e ∙ rw (le-ltb i (pagesIn pages) l))
+          pub judge-done : (i : ℕ) → pagesIn pages ≤ i → tightFrom (entries log) pages (pagesIn pages) 0 ≡ pick (ltb i (pagesIn pages)) (verdict 14 i) accepted → accepted ≡ recoverVerdict full (lent magic floor br pages log)
+          judge-done i l e = sym (past-changes ∙ e ∙ rw (le-ltb i (pagesIn pages) l))
 
-pub stray-ok : (pages : List ℕ) (es : List Entry) (at end : ℕ) → end ≤ at → strayFrom pages es first ≡ pick (ltb at end) (verdict 13 at) accepted → strayFrom pages es first .number ≡ 0
-stray-ok pages es at end l e =
-    let z : strayFrom pages es first ≡ accepted = e ∙ rw (le-ltb at end l) in
-    ap (λ (v : Verdict). v .number) z
+-- ---- 13, then 21
+
+-- each as a walk finds it: the place of the first change that is refused, or the end
+module _ (pages : List ℕ) (br : Branches) (es : List Entry) (end : ℕ) where
+  pub changes-stray : (at : ℕ) → at < end → strayFrom pages es first ≡ pick (ltb at end) (verdict 13 at) accepted → verdict 13 at ≡ changesVerdict pages br es
+  changes-stray at l e =
+      let z : strayFrom pages es first ≡ verdict 13 at = e ∙ rw (lt-ltb at end l) in
+      sym (rw z)
+
+  module _ (at : ℕ) (l : end ≤ at) (e : strayFrom pages es first ≡ pick (ltb at end) (verdict 13 at) accepted) where
+    no-stray : strayFrom pages es first ≡ accepted
+    no-stray = e ∙ rw (le-ltb at end l)
+
+    pub changes-foreign : (to : ℕ) → to < end → foreignFrom br es first ≡ pick (ltb to end) (verdict 21 to) accepted → verdict 21 to ≡ changesVerdict pages br es
+    changes-foreign to m f =
+        let z : foreignFrom br es first ≡ verdict 21 to = f ∙ rw (lt-ltb to end m) in
+        sym (rw (no-stray, z))
+
+    pub changes-none : (to : ℕ) → end ≤ to → foreignFrom br es first ≡ pick (ltb to end) (verdict 21 to) accepted → accepted ≡ changesVerdict pages br es
+    changes-none to m f =
+        let z : foreignFrom br es first ≡ accepted = f ∙ rw (le-ltb to end m) in
+        sym (rw (no-stray, z))
+
+pub stray-ok : (pages : List ℕ) (br : Branches) (es : List Entry) → changesVerdict pages br es .number ≡ 0 → strayFrom pages es first .number ≡ 0
+stray-ok pages br es h = then-zero (strayFrom pages es first) (foreignFrom br es first) h .0

@@ -30,6 +30,7 @@ use Rattle.images.specs.Page.{Sound, Touched}
 use Rattle.recovery.specs.Judgement.{Judgement, Gathered}
 use Rattle.recovery.specs.declared.Judged.{Judged as JudgedLog}
 use Rattle.recovery.proofs.JudgeLaws.{told-refused, judge-log}
+use Rattle.rules.specs.Branch.{Branches}
 use Rattle.rules.specs.Lent.{lent}
 
 -- ---- what an accepted log is
@@ -71,9 +72,9 @@ log-ok {full} {log} {n} {starts} {lasts} {w} j z = sym (ap (λ (v : Verdict). v 
 pub gathered-none : {pages log lists fronts space : List ℕ} {r : JudgedLog} → (r .walked .number ≡ 0 → ⊥) → Gathered pages log lists fronts space r
 gathered-none h = record { begin = λ z. absurd (h z); listed = λ z. absurd (h z); counts = λ z. absurd (h z) }
 
-module _ (full : ℕ → Bool) (magic floor : ℕ) (pages log starts lasts : List ℕ) where
-  pub judged-refused : (n at : ℕ) → (n ≡ 0 → ⊥) → verdict n at ≡ recoverVerdict full (lent magic floor pages log)
-      → Judgement full magic floor pages log starts lasts (record { number = n; place = at; last = record { 0 = 0 } })
+module _ (full : ℕ → Bool) (magic floor : ℕ) (br : Branches) (pages log starts lasts : List ℕ) where
+  pub judged-refused : (n at : ℕ) → (n ≡ 0 → ⊥) → verdict n at ≡ recoverVerdict full (lent magic floor br pages log)
+      → Judgement full magic floor br pages log starts lasts (record { number = n; place = at; last = record { 0 = 0 } })
   judged-refused n at h e =
       record {
         verdict = told-refused n at h ∙ e;
@@ -84,17 +85,17 @@ module _ (full : ℕ → Bool) (magic floor : ℕ) (pages log starts lasts : Lis
       }
 
   module _ (n : ℕ) (w : Walked) (j : Judged full log n starts lasts w) where
-    pub judged-log : sizeWrong pages ≡ false → (w .number ≡ 0 → ⊥) → Judgement full magic floor pages log starts lasts w
+    pub judged-log : sizeWrong pages ≡ false → (w .number ≡ 0 → ⊥) → Judgement full magic floor br pages log starts lasts w
     judged-log size h =
         record {
-          verdict = judge-log full magic floor pages log size (told (w .number) (w .place)) (j .verdict) (λ z. h (sym (ap (λ (v : Verdict). v .number) (told-refused (w .number) (w .place) h)) ∙ z));
+          verdict = judge-log full magic floor br pages log size (told (w .number) (w .place)) (j .verdict) (λ z. h (sym (ap (λ (v : Verdict). v .number) (told-refused (w .number) (w .place) h)) ∙ z));
           end = λ z. absurd (h z);
           last = λ z. absurd (h z);
           begin = λ z. absurd (h z);
           touched = λ z. absurd (h z);
         }
 
-    pub judged-all : w .number ≡ 0 → n ≡ pagesIn pages → accepted ≡ recoverVerdict full (lent magic floor pages log) → Judgement full magic floor pages log starts lasts w
+    pub judged-all : w .number ≡ 0 → n ≡ pagesIn pages → accepted ≡ recoverVerdict full (lent magic floor br pages log) → Judgement full magic floor br pages log starts lasts w
     judged-all z e v =
         record {
           verdict = rw (eq-eqb (w .number) 0 z) v;

@@ -22,6 +22,7 @@ use Rattle.images.specs.Tuples.{Lies, tupleAt, tupleIn}
 use Rattle.recovery.specs.declared.Spot.{Spot}
 use Rattle.recovery.specs.Spot.{standingIn, locatedBy, Spotted}
 use Rattle.recovery.proofs.Heads.{stamped-payload, tuple-logged, tuple-paged, tuple-empty, head-logged, head-paged, image-long}
+use Rattle.rules.specs.Branch.{Branches}
 use Rattle.rules.specs.Lent.{lent}
 
 -- ---- the payload of an image
@@ -89,11 +90,11 @@ located-long head m (b ∷ t) n e l = go (m .logged)
     go false = ap (λ (x : ℕ). record { head = head; source = 2; offset = m .place + 24; length = x }) payload
 
 -- ---- a row
-module _ {magic floor : ℕ} {pages log : List ℕ} {i k : ℕ} {r : Spot} (s : Spotted magic floor pages log i k r) where
-  number-is : rowVerdict (lent magic floor pages log) i .number ≡ r .number
+module _ {magic floor : ℕ} {br : Branches} {pages log : List ℕ} {i k : ℕ} {r : Spot} (s : Spotted magic floor br pages log i k r) where
+  number-is : rowVerdict (lent magic floor br pages log) i .number ≡ r .number
   number-is = sym (ap (λ (v : Verdict). v .number) (s .verdict))
 
-  pub row-head : pick (eqb (r .number) 0) (headOf (tupleIn log pages (r .image))) (refusedRow (verdict (r .number) (r .place))) ≡ rowOf (lent magic floor pages log) i k
+  pub row-head : pick (eqb (r .number) 0) (headOf (tupleIn log pages (r .image))) (refusedRow (verdict (r .number) (r .place))) ≡ rowOf (lent magic floor br pages log) i k
   unfolding rowOf
   row-head = rw (← s .verdict) (go (eqb (r .number) 0) refl)
     where
@@ -102,7 +103,7 @@ module _ {magic floor : ℕ} {pages log : List ℕ} {i k : ℕ} {r : Spot} (s : 
       go true e = ap headOf (s .stood (eqb-true (r .number) 0 e) .is)
       go false e = refl
 
-  row-tuple : tupleIn log pages (r .image) ≡ rowTuple (lent magic floor pages log) i k
+  row-tuple : tupleIn log pages (r .image) ≡ rowTuple (lent magic floor br pages log) i k
   unfolding rowTuple
   row-tuple = rw (number-is) (go (eqb (r .number) 0) refl)
     where
@@ -110,7 +111,7 @@ module _ {magic floor : ℕ} {pages log : List ℕ} {i k : ℕ} {r : Spot} (s : 
       go true e = s .stood (eqb-true (r .number) 0 e) .is
       go false e = tuple-empty log pages (r .image) (s .lies) (ap (λ (m : Image). m .length) (s .none (eqb-false (r .number) 0 e)))
 
-  pub row-payload : payloadOf (tupleIn log pages (r .image)) ≡ rowPayload (lent magic floor pages log) i k
+  pub row-payload : payloadOf (tupleIn log pages (r .image)) ≡ rowPayload (lent magic floor br pages log) i k
   unfolding rowPayload
   row-payload = ap payloadOf row-tuple
 
@@ -126,20 +127,20 @@ module _ {magic floor : ℕ} {pages log : List ℕ} {i k : ℕ} {r : Spot} (s : 
         go true e = eqb-true (r .number) 0 e
         go false e = absurd (some (ap (λ (x : Image). x .length) (s .none (eqb-false (r .number) 0 e))))
 
-    tuple-long : length (rowTuple (lent magic floor pages log) i k) ≡ r .image .length
+    tuple-long : length (rowTuple (lent magic floor br pages log) i k) ≡ r .image .length
     tuple-long = let d = s .stood zero-number in ap length (sym row-tuple ∙ d .is) ∙ sym (d .long)
 
   pub row-located : {l : Located} → l ≡ locatedBy (l .head) (r .image .logged) (r .image .place) (r .image .length)
-      → l .head ≡ pick (eqb (r .number) 0) (headOf (tupleIn log pages (r .image))) (refusedRow (verdict (r .number) (r .place))) → l ≡ locatedOf (lent magic floor pages log) i k
+      → l .head ≡ pick (eqb (r .number) 0) (headOf (tupleIn log pages (r .image))) (refusedRow (verdict (r .number) (r .place))) → l ≡ locatedOf (lent magic floor br pages log) i k
   unfolding locatedOf
   row-located {l} e h = e ∙ ap (λ (x : RowHead). locatedBy x (r .image .logged) (r .image .place) (r .image .length)) (h ∙ row-head) ∙ go (s .whole)
     where
       head : RowHead
-      head = rowOf (lent magic floor pages log) i k
+      head = rowOf (lent magic floor br pages log) i k
 
       go : (r .image .length ≡ 0) ⊎ (24 ≤ r .image .length)
-          → locatedBy head (r .image .logged) (r .image .place) (r .image .length) ≡ locatedAt head (standingOf pages log i k) (rowTuple (lent magic floor pages log) i k)
+          → locatedBy head (r .image .logged) (r .image .place) (r .image .length) ≡ locatedAt head (standingOf pages log i k) (rowTuple (lent magic floor br pages log) i k)
       go (inl z) = rw (eq-eqb (r .image .length) 0 z, ← row-tuple, tuple-empty log pages (r .image) (s .lies) z)
       go (inr b) =
           rw (ne-eqb (r .image .length) 0 (some b), ← s .stands (zero-number b) (some b))
-          (located-long head (r .image) (rowTuple (lent magic floor pages log) i k) (r .image .length) (tuple-long b) b)
+          (located-long head (r .image) (rowTuple (lent magic floor br pages log) i k) (r .image .length) (tuple-long b) b)

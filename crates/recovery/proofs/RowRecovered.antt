@@ -9,12 +9,13 @@ use Rattle.rules.specs.Recover.{recoverOf}
 use Rattle.rules.specs.Row.{tupleOf}
 use Rattle.rules.specs.declared.Record.{Record}
 use Rattle.rules.proofs.Again.{zero-accepted, slot-after}
+use Rattle.rules.specs.Branch.{Branches}
 use Rattle.rules.specs.Lent.{lent}
 
-module _ (magic floor : ℕ) (pages log : List ℕ) (table : List Record) (ok : recoverOf (lent magic floor pages log) table .answer .number ≡ 0) where
+module _ (magic floor : ℕ) (br : Branches) (pages log : List ℕ) (table : List Record) (ok : recoverOf (lent magic floor br pages log) table .answer .number ≡ 0) where
   -- where recovery is done, the tuple that is read is the one that it leaves
-  pub row-recovered : (i k : ℕ) → i < pagesIn pages → typeOf (pageAt i pages) ≡ dataType → tupleOf pages log i k ≡ slotAt (pageAt i (recoverOf (lent magic floor pages log) table .pages)) k
+  pub row-recovered : (i k : ℕ) → i < pagesIn pages → typeOf (pageAt i pages) ≡ dataType → tupleOf pages log i k ≡ slotAt (pageAt i (recoverOf (lent magic floor br pages log) table .pages)) k
   unfolding decided tupleOf
   row-recovered i k l d =
       rw (eq-eqb (typeOf (pageAt i pages)) dataType d)
-      (sym (slot-after magic floor pages log table (zero-accepted magic floor pages log table ok) i l k))
+      (sym (slot-after magic floor br pages log table (zero-accepted magic floor br pages log table ok) i l k))

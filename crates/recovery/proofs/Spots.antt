@@ -34,6 +34,7 @@ use Rattle.images.specs.Page.{Sound, Fitting}
 use Rattle.images.proofs.Deciding.{top-fits}
 use Rattle.recovery.specs.Spot.{shiftedBy, nowhereBy, standingIn, Spotted}
 use Rattle.refusals.proofs.Then.{then-refused, then-accepted}
+use Rattle.rules.specs.Branch.{Branches}
 use Rattle.rules.specs.Lent.{lent}
 
 -- ---- an image of a page, as one of the page area
@@ -77,19 +78,19 @@ decided-good log p o g i k =
     (slot-good p k (g .size) (g .good))
 
 -- ---- verdicts
-module _ (magic floor : ℕ) (pages log : List ℕ) (i : ℕ) where
-  pub row-refused : (v : Verdict) → (v .number ≡ 0 → ⊥) → recoverVerdict neverFull (lent magic floor pages log) ≡ v → v ≡ rowVerdict (lent magic floor pages log) i
+module _ (magic floor : ℕ) (br : Branches) (pages log : List ℕ) (i : ℕ) where
+  pub row-refused : (v : Verdict) → (v .number ≡ 0 → ⊥) → recoverVerdict neverFull (lent magic floor br pages log) ≡ v → v ≡ rowVerdict (lent magic floor br pages log) i
   unfolding rowVerdict
   row-refused v h e = sym (rw e (then-refused v _ h))
 
-  module _ (ok : recoverVerdict neverFull (lent magic floor pages log) .number ≡ 0) where
-    pub row-beyond : pagesIn pages ≤ i → verdict 15 0 ≡ rowVerdict (lent magic floor pages log) i
+  module _ (ok : recoverVerdict neverFull (lent magic floor br pages log) .number ≡ 0) where
+    pub row-beyond : pagesIn pages ≤ i → verdict 15 0 ≡ rowVerdict (lent magic floor br pages log) i
     unfolding rowVerdict
-    row-beyond h = sym (then-accepted (recoverVerdict neverFull (lent magic floor pages log)) _ ok ∙ rw (le-leb (pagesIn pages) i h))
+    row-beyond h = sym (then-accepted (recoverVerdict neverFull (lent magic floor br pages log)) _ ok ∙ rw (le-leb (pagesIn pages) i h))
 
-    pub row-accepted : i < pagesIn pages → accepted ≡ rowVerdict (lent magic floor pages log) i
+    pub row-accepted : i < pagesIn pages → accepted ≡ rowVerdict (lent magic floor br pages log) i
     unfolding rowVerdict
-    row-accepted h = sym (then-accepted (recoverVerdict neverFull (lent magic floor pages log)) _ ok ∙ rw (lt-leb (pagesIn pages) i h))
+    row-accepted h = sym (then-accepted (recoverVerdict neverFull (lent magic floor br pages log)) _ ok ∙ rw (lt-leb (pagesIn pages) i h))
 
 -- ---- spots
 
@@ -100,7 +101,7 @@ none-stood : (s p : List ℕ) → Stood s p (paged 0 0) []
 unfolding tupleIn
 none-stood s p = record { is = refl; lies = none-lies s p; long = refl }
 
-module _ (magic floor : ℕ) (pages log : List ℕ) (i k : ℕ) where
+module _ (magic floor : ℕ) (br : Branches) (pages log : List ℕ) (i k : ℕ) where
   tuple-none : (typeOf (pageAt i pages) ≡ dataType → ⊥) → tupleOf pages log i k ≡ []
   unfolding tupleOf
   tuple-none h = rw (ne-eqb (typeOf (pageAt i pages)) dataType h)
@@ -109,12 +110,12 @@ module _ (magic floor : ℕ) (pages log : List ℕ) (i k : ℕ) where
   unfolding tupleOf
   tuple-some h = rw (eq-eqb (typeOf (pageAt i pages)) dataType h)
 
-  pub spot-refused : (n at : ℕ) → (n ≡ 0 → ⊥) → verdict n at ≡ rowVerdict (lent magic floor pages log) i → Spotted magic floor pages log i k (nowhereBy n at)
+  pub spot-refused : (n at : ℕ) → (n ≡ 0 → ⊥) → verdict n at ≡ rowVerdict (lent magic floor br pages log) i → Spotted magic floor br pages log i k (nowhereBy n at)
   spot-refused n at h e =
       record { verdict = e; stood = λ z. absurd (h z); stands = λ z. absurd (h z); none = λ z. refl; lies = none-lies log pages; whole = inl refl }
 
   -- a page not of type 1
-  pub spot-none : accepted ≡ rowVerdict (lent magic floor pages log) i → (typeOf (pageAt i pages) ≡ dataType → ⊥) → Spotted magic floor pages log i k (nowhereBy 0 0)
+  pub spot-none : accepted ≡ rowVerdict (lent magic floor br pages log) i → (typeOf (pageAt i pages) ≡ dataType → ⊥) → Spotted magic floor br pages log i k (nowhereBy 0 0)
   spot-none e h =
       record {
         verdict = e;
@@ -125,9 +126,9 @@ module _ (magic floor : ℕ) (pages log : List ℕ) (i k : ℕ) where
         whole = inl refl;
       }
 
-  pub spot-found : accepted ≡ rowVerdict (lent magic floor pages log) i → typeOf (pageAt i pages) ≡ dataType → Ordered log → Sound (pageAt i pages) → {m : Image}
+  pub spot-found : accepted ≡ rowVerdict (lent magic floor br pages log) i → typeOf (pageAt i pages) ≡ dataType → Ordered log → Sound (pageAt i pages) → {m : Image}
       → Stood log pages m (decided (committed (entries log)) (entries log) i k (slotAt (pageAt i pages) k)) → ((m .length ≡ 0 → ⊥) → standingIn m ≡ standingOf pages log i k)
-      → Spotted magic floor pages log i k (record { number = 0; place = 0; image = m })
+      → Spotted magic floor br pages log i k (record { number = 0; place = 0; image = m })
   spot-found e d o g {m} h st =
       record {
         verdict = e;

@@ -3,10 +3,14 @@ use Prim.Native.Nat.{ℕ}
 use mathlib.Core.Path.{_≡_}
 use mathlib.Core.Bool.{Bool}
 use mathlib.Core.List.{List}
+use Rattle.wal.specs.Entry.{Entry}
+use Rattle.wal.specs.Read.{first}
 use Rattle.wal.specs.Walk.{entries, endOf}
+use Rattle.refusals.specs.Verdict.{_then_}
+use Rattle.refusals.specs.declared.Verdict.{Verdict}
 use Rattle.page.specs.Layout.{pagesIn}
 use Rattle.rules.specs.Order.{lastLsn}
-use Rattle.rules.specs.Recover.{recoverVerdict}
+use Rattle.rules.specs.Recover.{strayFrom, foreignFrom, recoverVerdict}
 use Rattle.rules.specs.declared.Answer.{Answer}
 use Rattle.endian.specs.declared.Lsn.{Lsn}
 use Rattle.order.specs.First.{told}
@@ -18,11 +22,16 @@ use Rattle.cells.specs.Listing.{Lists}
 use Rattle.cells.specs.Measure.{Lasts}
 use Rattle.decide.specs.Lists.{Listed}
 use Rattle.recovery.specs.declared.Judged.{Judged}
+use Rattle.rules.specs.Branch.{Branches}
 use Rattle.rules.specs.Lent.{lent}
 
+-- 13, then 21
+abbrev pub changesVerdict : List ℕ → Branches → List Entry → Verdict
+changesVerdict pages br es = strayFrom pages es first then foreignFrom br es first
+
 -- the verdict; accepted, where the log ends and its last LSN, where the cells of pages start, and the places of the last changes on them
-pub record Judgement (full : ℕ → Bool) (magic floor : ℕ) (pages log starts lasts : List ℕ) (w : Walked) : Type 0 where
-  pub verdict : told (w .number) (w .place) ≡ recoverVerdict full (lent magic floor pages log)
+pub record Judgement (full : ℕ → Bool) (magic floor : ℕ) (br : Branches) (pages log starts lasts : List ℕ) (w : Walked) : Type 0 where
+  pub verdict : told (w .number) (w .place) ≡ recoverVerdict full (lent magic floor br pages log)
   pub end : w .number ≡ 0 → w .place ≡ endOf log
   pub last : w .number ≡ 0 → w .last .0 ≡ lastLsn (entries log)
   pub begin : w .number ≡ 0 → Starts (entries log) (pagesIn pages) starts

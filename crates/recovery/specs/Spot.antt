@@ -13,6 +13,7 @@ use Rattle.rules.specs.declared.Located.{Located}
 use Rattle.images.specs.declared.Image.{Image}
 use Rattle.images.specs.Tuples.{Lies, Stood, paged}
 use Rattle.recovery.specs.declared.Spot.{Spot}
+use Rattle.rules.specs.Branch.{Branches}
 use Rattle.rules.specs.Lent.{lent}
 
 -- an image of a page that starts at place a of the page area, as an image of that area
@@ -33,8 +34,8 @@ abbrev pub standingIn : Image → Standing
 standingIn m = pick (m .logged) (inLog (m .place)) (inPages (m .place))
 
 -- the spot of slot k of page i: the verdict, and where the tuple that recovery would leave there stands; refused, no tuple
-pub record Spotted (magic floor : ℕ) (pages log : List ℕ) (i k : ℕ) (r : Spot) : Type 0 where
-  pub verdict : verdict (r .number) (r .place) ≡ rowVerdict (lent magic floor pages log) i
+pub record Spotted (magic floor : ℕ) (br : Branches) (pages log : List ℕ) (i k : ℕ) (r : Spot) : Type 0 where
+  pub verdict : verdict (r .number) (r .place) ≡ rowVerdict (lent magic floor br pages log) i
   pub stood : r .number ≡ 0 → Stood log pages (r .image) (tupleOf pages log i k)
   pub stands : r .number ≡ 0 → (r .image .length ≡ 0 → ⊥) → standingIn (r .image) ≡ standingOf pages log i k
   pub none : (r .number ≡ 0 → ⊥) → r .image ≡ paged 0 0

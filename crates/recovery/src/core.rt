@@ -1,4 +1,5 @@
 // Recovery but for its table: judged, counted, mended.
+ghost use Rattle.rules.specs.Branch.{branches};
 ghost use Rattle.rules.specs.Lent.{lent};
 ghost use mathlib.Core.Path.{_≡_};
 ghost use mathlib.Core.List.{[]};
@@ -65,6 +66,8 @@ fn run(
     t: &Tables,
     magic: u64,
     floor: Lsn,
+    pairs: &[u64],
+    owners: &[u64],
     pages: &mut [u8],
     log: &[u8],
     records: u64,
@@ -75,13 +78,15 @@ fn run(
     space: &mut [u8; 655360],
 ) -> Answer
     requires { ⌜ Tables (now t) ⌝ }
-    ensures { λ r. ⌜ r ≡ recoverBy (recoverVerdict (fullAt records) (lent magic (floor .0) (now (pages .entry)) (now (log .entry)))) (now (pages .entry)) (now (log .entry)) [] .answer ⌝ }
-    ensures { λ _. ⌜ now (pages .exit) ≡ recoverBy (recoverVerdict (fullAt records) (lent magic (floor .0) (now (pages .entry)) (now (log .entry)))) (now (pages .entry)) (now (log .entry)) [] .pages ⌝ }
+    ensures { λ r. ⌜ r ≡ recoverBy (recoverVerdict (fullAt records) (lent magic (floor .0) (branches (now (pairs .entry)) (now (owners .entry))) (now (pages .entry)) (now (log .entry)))) (now (pages .entry)) (now (log .entry)) [] .answer ⌝ }
+    ensures { λ _. ⌜ now (pages .exit) ≡ recoverBy (recoverVerdict (fullAt records) (lent magic (floor .0) (branches (now (pairs .entry)) (now (owners .entry))) (now (pages .entry)) (now (log .entry)))) (now (pages .entry)) (now (log .entry)) [] .pages ⌝ }
 {
     let j = judge(
         t,
         magic,
         floor,
+        pairs,
+        owners,
         pages,
         log,
         true,
@@ -103,9 +108,17 @@ fn run(
 }
 
 // Recovery for a table of so many records, which is not written.
-pub fn recover(magic: u64, floor: Lsn, pages: &mut [u8], log: &[u8], records: u64) -> Answer
-    ensures { λ r. ⌜ r ≡ recoverBy (recoverVerdict (fullAt records) (lent magic (floor .0) (now (pages .entry)) (now (log .entry)))) (now (pages .entry)) (now (log .entry)) [] .answer ⌝ }
-    ensures { λ _. ⌜ now (pages .exit) ≡ recoverBy (recoverVerdict (fullAt records) (lent magic (floor .0) (now (pages .entry)) (now (log .entry)))) (now (pages .entry)) (now (log .entry)) [] .pages ⌝ }
+pub fn recover(
+    magic: u64,
+    floor: Lsn,
+    pairs: &[u64],
+    owners: &[u64],
+    pages: &mut [u8],
+    log: &[u8],
+    records: u64,
+) -> Answer
+    ensures { λ r. ⌜ r ≡ recoverBy (recoverVerdict (fullAt records) (lent magic (floor .0) (branches (now (pairs .entry)) (now (owners .entry))) (now (pages .entry)) (now (log .entry)))) (now (pages .entry)) (now (log .entry)) [] .answer ⌝ }
+    ensures { λ _. ⌜ now (pages .exit) ≡ recoverBy (recoverVerdict (fullAt records) (lent magic (floor .0) (branches (now (pairs .entry)) (now (owners .entry))) (now (pages .entry)) (now (log .entry)))) (now (pages .entry)) (now (log .entry)) [] .pages ⌝ }
 {
     let t = tables();
     let mut starts = [0u32; 4097];
@@ -117,6 +130,8 @@ pub fn recover(magic: u64, floor: Lsn, pages: &mut [u8], log: &[u8], records: u6
         &t,
         magic,
         floor,
+        pairs,
+        owners,
         pages,
         log,
         records,

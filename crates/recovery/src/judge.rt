@@ -2,8 +2,15 @@
 ghost use mathlib.Core.Path.{_≡_};
 ghost use Rattle.crc32c.specs.Tables.{Tables};
 ghost use Rattle.order.specs.First.{fullOf};
-ghost use Rattle.recovery.specs.Judgement.{Judgement, Gathered};
+ghost use Prim.Native.Nat.{_≤_};
+ghost use Rattle.wal.specs.Walk.{entries, endOf};
+ghost use Rattle.page.specs.Layout.{pagesIn};
+ghost use Rattle.rules.specs.Branch.{branches};
+ghost use Rattle.cells.specs.Cell.{Starts};
+ghost use Rattle.cells.specs.Measure.{Sound, FirstBeyond};
+ghost use Rattle.recovery.specs.Judgement.{changesVerdict, Judgement, Gathered};
 use crate::Judged;
+use branches::inner::foreign;
 use checks::inner::judge_log;
 use checks::inner::judge_pages;
 use checks::inner::stray;
@@ -16,6 +23,8 @@ use page::inner::size_wrong;
 use refusals::NO_DATA_PAGE;
 use refusals::PAGE_AREA;
 use refusals::PAGE_OVERFULL;
+use refusals::Verdict;
+use refusals::WRONG_BRANCH;
 use room::inner::tight;
 use tally::Tally;
 
@@ -49,11 +58,52 @@ fn refused(w: Walked) -> Judged
     }
 }
 
+// 13, then 21: the place of the first change to a page that cannot take it, then of the first of another branch than its page's. Both spaces are used.
+fn judge_changes(
+    log: &[u8],
+    end: usize,
+    pages: &[u8],
+    n: usize,
+    starts: &[u32; 4097],
+    beyond: usize,
+    pairs: &[u64],
+    owners: &[u64],
+    space: &mut [u8; 655360],
+    places: &mut [u32; 16384],
+) -> Verdict
+    requires { ⌜ (endOf (now log) ≡ end) × (n ≡ pagesIn (now pages)) × (n ≤ 4096) ⌝ }
+    requires { ⌜ Sound (now log) end ⌝ }
+    requires { ⌜ Starts (entries (now log)) n (now starts) ⌝ }
+    requires { ⌜ FirstBeyond (now log) end n beyond ⌝ }
+    ensures { λ r. ⌜ r ≡ changesVerdict (now (pages .entry)) (branches (now (pairs .entry)) (now (owners .entry))) (entries (now (log .entry))) ⌝ }
+{
+    let at = stray(log, end, pages, n, starts, beyond);
+    let to = foreign(log, end, pairs, owners, &mut space[..], &mut places[..]);
+    if at < end {
+        return Verdict {
+            number: NO_DATA_PAGE,
+            place: at as u64,
+        };
+    }
+    if to < end {
+        return Verdict {
+            number: WRONG_BRANCH,
+            place: to as u64,
+        };
+    }
+    Verdict {
+        number: 0,
+        place: 0,
+    }
+}
+
 // The first refusal, or where the log ends and what it counts; `bounded` says whether only so many records are lent.
 pub fn judge(
     t: &Tables,
     magic: u64,
     floor: Lsn,
+    pairs: &[u64],
+    owners: &[u64],
     pages: &[u8],
     log: &[u8],
     bounded: bool,
@@ -65,7 +115,7 @@ pub fn judge(
     space: &mut [u8; 655360],
 ) -> Judged
     requires { ⌜ Tables (now t) ⌝ }
-    ensures { λ r. ⌜ Judgement (fullOf bounded records) magic (floor .0) (now (pages .entry)) (now (log .entry)) (now (starts .exit)) (now (lasts .exit)) (r .walked) ⌝ }
+    ensures { λ r. ⌜ Judgement (fullOf bounded records) magic (floor .0) (branches (now (pairs .entry)) (now (owners .entry))) (now (pages .entry)) (now (log .entry)) (now (starts .exit)) (now (lasts .exit)) (r .walked) ⌝ }
     ensures { λ r. ⌜ Gathered (now (pages .entry)) (now (log .entry)) (now (lists .exit)) (now (fronts .exit)) (now (space .exit)) r ⌝ }
 {
     // made before any test: docs/DECISIONS.md says why
@@ -94,9 +144,20 @@ pub fn judge(
     if v.number != 0 {
         return refusal(v.number, v.place as usize);
     }
-    let at = stray(log, w.place, pages, n, starts, found.beyond);
-    if at < w.place {
-        return refusal(NO_DATA_PAGE, at);
+    let f = judge_changes(
+        log,
+        w.place,
+        pages,
+        n,
+        starts,
+        found.beyond,
+        pairs,
+        owners,
+        space,
+        &mut hints,
+    );
+    if f.number != 0 {
+        return refusal(f.number, f.place as usize);
     }
     let c = gather(log, w.place, n, lists, fronts, space);
     let i = tight(log, pages, n, starts, lists, fronts, space);

@@ -1,4 +1,5 @@
 // Recovery, and reading a row before it.
+ghost use Rattle.rules.specs.Branch.{branches};
 ghost use Rattle.rules.specs.Lent.{lent};
 ghost use mathlib.Core.Path.{_≡_};
 ghost use Prim.Native.Nat.{_/_, _≤_};
@@ -39,13 +40,21 @@ pub struct Spot {
     pub image: Image,
 }
 
-// Recovery: pages mended, the table filled with one record for each Begin, and the answer.
-pub fn recover(magic: u64, floor: Lsn, pages: &mut [u8], log: &[u8], table: &mut [Record]) -> Answer
-    ensures { λ r. ⌜ r ≡ recoverOf (lent magic (floor .0) (now (pages .entry)) (now (log .entry))) (now (table .entry)) .answer ⌝ }
-    ensures { λ _. ⌜ now (pages .exit) ≡ recoverOf (lent magic (floor .0) (now (pages .entry)) (now (log .entry))) (now (table .entry)) .pages ⌝ }
-    ensures { λ _. ⌜ now (table .exit) ≡ recoverOf (lent magic (floor .0) (now (pages .entry)) (now (log .entry))) (now (table .entry)) .table ⌝ }
+// Recovery: pages mended, the table filled with one record for each Begin, and the answer. `pairs` are table ids, each with its branch, `owners` the branches of the pages.
+pub fn recover(
+    magic: u64,
+    floor: Lsn,
+    pairs: &[u64],
+    owners: &[u64],
+    pages: &mut [u8],
+    log: &[u8],
+    table: &mut [Record],
+) -> Answer
+    ensures { λ r. ⌜ r ≡ recoverOf (lent magic (floor .0) (branches (now (pairs .entry)) (now (owners .entry))) (now (pages .entry)) (now (log .entry))) (now (table .entry)) .answer ⌝ }
+    ensures { λ _. ⌜ now (pages .exit) ≡ recoverOf (lent magic (floor .0) (branches (now (pairs .entry)) (now (owners .entry))) (now (pages .entry)) (now (log .entry))) (now (table .entry)) .pages ⌝ }
+    ensures { λ _. ⌜ now (table .exit) ≡ recoverOf (lent magic (floor .0) (branches (now (pairs .entry)) (now (owners .entry))) (now (pages .entry)) (now (log .entry))) (now (table .entry)) .table ⌝ }
 {
-    let a = core::recover(magic, floor, pages, log, table.len() as u64);
+    let a = core::recover(magic, floor, pairs, owners, pages, log, table.len() as u64);
     fill(log, a, table);
     a
 }
@@ -64,16 +73,18 @@ fn fill_table(log: &[u8], end: usize, table: &mut [u64])
 pub fn recover_flat(
     magic: u64,
     floor: Lsn,
+    pairs: &[u64],
+    owners: &[u64],
     pages: &mut [u8],
     log: &[u8],
     table: &mut [u64],
 ) -> Answer
-    ensures { λ r. ⌜ r ≡ recoverFlat (lent magic (floor .0) (now (pages .entry)) (now (log .entry))) (now (table .entry)) .answer ⌝ }
-    ensures { λ _. ⌜ now (pages .exit) ≡ recoverFlat (lent magic (floor .0) (now (pages .entry)) (now (log .entry))) (now (table .entry)) .pages ⌝ }
-    ensures { λ _. ⌜ now (table .exit) ≡ recoverFlat (lent magic (floor .0) (now (pages .entry)) (now (log .entry))) (now (table .entry)) .table ⌝ }
+    ensures { λ r. ⌜ r ≡ recoverFlat (lent magic (floor .0) (branches (now (pairs .entry)) (now (owners .entry))) (now (pages .entry)) (now (log .entry))) (now (table .entry)) .answer ⌝ }
+    ensures { λ _. ⌜ now (pages .exit) ≡ recoverFlat (lent magic (floor .0) (branches (now (pairs .entry)) (now (owners .entry))) (now (pages .entry)) (now (log .entry))) (now (table .entry)) .pages ⌝ }
+    ensures { λ _. ⌜ now (table .exit) ≡ recoverFlat (lent magic (floor .0) (branches (now (pairs .entry)) (now (owners .entry))) (now (pages .entry)) (now (log .entry))) (now (table .entry)) .table ⌝ }
 {
     let records = (table.len() / 4) as u64;
-    let a = core::recover(magic, floor, pages, log, records);
+    let a = core::recover(magic, floor, pairs, owners, pages, log, records);
     if a.number == 0 {
         fill_table(log, a.tail as usize, table);
     }
@@ -84,14 +95,25 @@ pub fn recover_flat(
 pub fn read_row(
     magic: u64,
     floor: Lsn,
+    pairs: &[u64],
+    owners: &[u64],
     pages: &[u8],
     log: &[u8],
     page: PageNumber,
     slot: u16,
 ) -> RowHead
-    ensures { λ r. ⌜ r ≡ rowOf (lent magic (floor .0) (now (pages .entry)) (now (log .entry))) (page .0) slot ⌝ }
+    ensures { λ r. ⌜ r ≡ rowOf (lent magic (floor .0) (branches (now (pairs .entry)) (now (owners .entry))) (now (pages .entry)) (now (log .entry))) (page .0) slot ⌝ }
 {
-    let s = row::find(magic, floor, pages, log, page.0, slot as usize);
+    let s = row::find(
+        magic,
+        floor,
+        pairs,
+        owners,
+        pages,
+        log,
+        page.0,
+        slot as usize,
+    );
     row::head(log, pages, s)
 }
 
@@ -99,14 +121,25 @@ pub fn read_row(
 pub fn row_payload<'a>(
     magic: u64,
     floor: Lsn,
+    pairs: &[u64],
+    owners: &[u64],
     pages: &'a [u8],
     log: &'a [u8],
     page: PageNumber,
     slot: u16,
 ) -> &'a [u8]
-    ensures { λ r. ⌜ now r ≡ rowPayload (lent magic (floor .0) (now (pages .entry)) (now (log .entry))) (page .0) slot ⌝ }
+    ensures { λ r. ⌜ now r ≡ rowPayload (lent magic (floor .0) (branches (now (pairs .entry)) (now (owners .entry))) (now (pages .entry)) (now (log .entry))) (page .0) slot ⌝ }
 {
-    let s = row::find(magic, floor, pages, log, page.0, slot as usize);
+    let s = row::find(
+        magic,
+        floor,
+        pairs,
+        owners,
+        pages,
+        log,
+        page.0,
+        slot as usize,
+    );
     let m = s.image;
     row::payload(log, pages, m)
 }
@@ -115,13 +148,24 @@ pub fn row_payload<'a>(
 pub fn locate_row(
     magic: u64,
     floor: Lsn,
+    pairs: &[u64],
+    owners: &[u64],
     pages: &[u8],
     log: &[u8],
     page: PageNumber,
     slot: u16,
 ) -> Located
-    ensures { λ r. ⌜ r ≡ locatedOf (lent magic (floor .0) (now (pages .entry)) (now (log .entry))) (page .0) slot ⌝ }
+    ensures { λ r. ⌜ r ≡ locatedOf (lent magic (floor .0) (branches (now (pairs .entry)) (now (owners .entry))) (now (pages .entry)) (now (log .entry))) (page .0) slot ⌝ }
 {
-    let s = row::find(magic, floor, pages, log, page.0, slot as usize);
+    let s = row::find(
+        magic,
+        floor,
+        pairs,
+        owners,
+        pages,
+        log,
+        page.0,
+        slot as usize,
+    );
     row::locate(log, pages, s)
 }

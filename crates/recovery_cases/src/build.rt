@@ -9,6 +9,9 @@ use endian::u16_at;
 
 pub const MAGIC: u64 = 0x0123_4567_89AB_CDEF;
 
+// The table of every entry.
+pub const TABLE: u64 = 77;
+
 pub const BEGIN: u8 = 1;
 
 pub const COMMIT: u8 = 2;
@@ -169,7 +172,7 @@ fn push_front(log: &mut [u8], lsn: Lsn, txn: Txn, kind: u8) -> u16 {
     push(log, lsn.0, 8);
     push(log, txn.0, 8);
     push(log, kind as u64, 1);
-    push(log, 77, 4);
+    push(log, TABLE, 4);
     from
 }
 

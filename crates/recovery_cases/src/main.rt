@@ -7,6 +7,7 @@ use crate::build::Key;
 use crate::build::MAGIC;
 use crate::build::ROLLBACK;
 use crate::build::Row;
+use crate::build::TABLE;
 use crate::build::bare;
 use crate::build::delete;
 use crate::build::empty;
@@ -105,7 +106,17 @@ fn show_page(name: &[u8], before: &[u8], p: &[u8]) {
 fn case(name: &[u8], before: [u8; 32768], floor: u64, log: &[u8]) {
     let mut p = before;
     let mut t = [99u64; 12];
-    let a = recovery::recover_flat(MAGIC, Lsn(floor), &mut p, used(log), &mut t);
+    let pairs = [TABLE, 1];
+    let owners = [1u64; 2];
+    let a = recovery::recover_flat(
+        MAGIC,
+        Lsn(floor),
+        &pairs,
+        &owners,
+        &mut p,
+        used(log),
+        &mut t,
+    );
     word(name);
     show_answer(a);
     show_page(b"; page 0", &before[0..16384], &p[0..16384]);
@@ -115,7 +126,15 @@ fn case(name: &[u8], before: [u8; 32768], floor: u64, log: &[u8]) {
     show_record(&t, 4);
     show_record(&t, 8);
     let mut q = p;
-    let b = recovery::recover_flat(MAGIC, Lsn(floor), &mut q, used(log), &mut t);
+    let b = recovery::recover_flat(
+        MAGIC,
+        Lsn(floor),
+        &pairs,
+        &owners,
+        &mut q,
+        used(log),
+        &mut t,
+    );
     number(b"; again ", b.number);
     show_page(b", pages", &p, &q);
     word(b"\n");
@@ -128,7 +147,9 @@ fn first(name: &[u8], log: &[u8], n: usize) {
     }
     let mut p = [0u8; 0];
     let mut t = [99u64; 12];
-    let a = recovery::recover_flat(MAGIC, Lsn(0), &mut p, &log[0..n], &mut t);
+    let pairs = [TABLE, 1];
+    let owners = [1u64; 2];
+    let a = recovery::recover_flat(MAGIC, Lsn(0), &pairs, &owners, &mut p, &log[0..n], &mut t);
     word(name);
     show_answer(a);
     word(b"\n");
@@ -150,14 +171,16 @@ fn show_head(h: RowHead) {
 // A row before recovery: header and payload, and both again with the place.
 fn read<'a>(name: &[u8], p: &'a [u8], log: &'a [u8], page: Page, slot: u16) {
     word(name);
-    show_head(recovery::read_row(MAGIC, Lsn(0), p, log, page, slot));
-    let b = recovery::row_payload(MAGIC, Lsn(0), p, log, page, slot);
+    let pairs = [TABLE, 1];
+    let owners = [1u64; 2];
+    show_head(recovery::read_row(MAGIC, Lsn(0), &pairs, &owners, p, log, page, slot));
+    let b = recovery::row_payload(MAGIC, Lsn(0), &pairs, &owners, p, log, page, slot);
     number(b", payload of ", b.len() as u64);
     word(b" from ");
     io::print_hex(1, u64_at(b, 0), 16);
     word(b", sum ");
     io::print_hex(1, crc32c::crc32c(b) as u64, 8);
-    let w = recovery::locate_row(MAGIC, Lsn(0), p, log, page, slot);
+    let w = recovery::locate_row(MAGIC, Lsn(0), &pairs, &owners, p, log, page, slot);
     let h = w.head;
     word(b"; located");
     show_head(h);

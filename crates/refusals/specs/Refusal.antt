@@ -77,6 +77,10 @@ pageChecksum = 18
 abbrev pub pageSlots : ℕ
 pageSlots = 19
 
+-- change whose table and page do not belong to one and the same branch
+abbrev pub wrongBranch : ℕ
+wrongBranch = 21
+
 -- area too short for the summary
 abbrev pub summaryArea : ℕ
 summaryArea = 27

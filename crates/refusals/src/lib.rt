@@ -37,6 +37,8 @@ pub const PAGE_CHECKSUM: u64 = 18;
 
 pub const PAGE_SLOTS: u64 = 19;
 
+pub const WRONG_BRANCH: u64 = 21;
+
 pub const SUMMARY_AREA: u64 = 27;
 
 pub const SUMMARY_ENDS_EARLY: u64 = 28;

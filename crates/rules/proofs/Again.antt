@@ -37,6 +37,7 @@ use Rattle.rules.proofs.Range.{in-range}
 use Rattle.rules.proofs.Verdicts.{Accepted, is-accepted, accepted-is}
 use Rattle.refusals.proofs.Then.{then-zero}
 use Rattle.rules.proofs.Area.{page-mended, mended-alike}
+use Rattle.rules.specs.Branch.{Branches}
 use Rattle.rules.specs.Lent.{lent}
 
 -- an answer of 0 comes from no refusal
@@ -48,40 +49,40 @@ answer-zero v pages log table h = go (eqb (v .number) 0) refl h
     go false e k = rw e at k
 
 -- the two ways of recovery
-module _ (magic floor : ℕ) (pages log : List ℕ) (table : List Record) where
-  pub recover-done : recoverVerdict (fullAt (length table)) (lent magic floor pages log) .number ≡ 0
-      → (recoverOf (lent magic floor pages log) table .answer ≡ done (entries log) (endOf log) (endingNumber (endingOf log)) (pagesIn pages))
-      × (recoverOf (lent magic floor pages log) table .pages ≡ mendedFrom (entries log) pages (pagesIn pages) 0)
+module _ (magic floor : ℕ) (br : Branches) (pages log : List ℕ) (table : List Record) where
+  pub recover-done : recoverVerdict (fullAt (length table)) (lent magic floor br pages log) .number ≡ 0
+      → (recoverOf (lent magic floor br pages log) table .answer ≡ done (entries log) (endOf log) (endingNumber (endingOf log)) (pagesIn pages))
+      × (recoverOf (lent magic floor br pages log) table .pages ≡ mendedFrom (entries log) pages (pagesIn pages) 0)
   unfolding recoverOf
   recover-done h = rw (eq-eqb _ _ h) (refl, refl)
 
   -- a refusal leaves every buffer as it was
-  pub recover-refused : eqb (recoverVerdict (fullAt (length table)) (lent magic floor pages log) .number) 0 ≡ false
-      → recoverOf (lent magic floor pages log) table
-      ≡ record { answer = refused (recoverVerdict (fullAt (length table)) (lent magic floor pages log)); pages = pages; table = table }
+  pub recover-refused : eqb (recoverVerdict (fullAt (length table)) (lent magic floor br pages log) .number) 0 ≡ false
+      → recoverOf (lent magic floor br pages log) table
+      ≡ record { answer = refused (recoverVerdict (fullAt (length table)) (lent magic floor br pages log)); pages = pages; table = table }
   unfolding recoverOf
   recover-refused h = rw h
 
-  pub recover-zero : recoverOf (lent magic floor pages log) table .answer .number ≡ 0 → recoverVerdict (fullAt (length table)) (lent magic floor pages log) .number ≡ 0
+  pub recover-zero : recoverOf (lent magic floor br pages log) table .answer .number ≡ 0 → recoverVerdict (fullAt (length table)) (lent magic floor br pages log) .number ≡ 0
   unfolding recoverOf
-  recover-zero h = answer-zero (recoverVerdict (fullAt (length table)) (lent magic floor pages log)) pages log table h
+  recover-zero h = answer-zero (recoverVerdict (fullAt (length table)) (lent magic floor br pages log)) pages log table h
 
-  pub zero-accepted : recoverOf (lent magic floor pages log) table .answer .number ≡ 0 → Accepted (fullAt (length table)) magic floor pages log
-  zero-accepted h = is-accepted (fullAt (length table)) magic floor pages log (recover-zero h)
+  pub zero-accepted : recoverOf (lent magic floor br pages log) table .answer .number ≡ 0 → Accepted (fullAt (length table)) magic floor br pages log
+  zero-accepted h = is-accepted (fullAt (length table)) magic floor br pages log (recover-zero h)
 
   -- each page is mended, and each of its slots decided
-  module _ (a : Accepted (fullAt (length table)) magic floor pages log) (i : ℕ) (l : i < pagesIn pages) where
+  module _ (a : Accepted (fullAt (length table)) magic floor br pages log) (i : ℕ) (l : i < pagesIn pages) where
     abbrev E : List Entry
     E = entries log
 
-    pub page-after : pageAt i (recoverOf (lent magic floor pages log) table .pages) ≡ mend E i (pageAt i pages)
+    pub page-after : pageAt i (recoverOf (lent magic floor br pages log) table .pages) ≡ mend E i (pageAt i pages)
     unfolding mend
     page-after =
-        ap (pageAt i) (recover-done (accepted-is (fullAt (length table)) magic floor pages log a) .1)
+        ap (pageAt i) (recover-done (accepted-is (fullAt (length table)) magic floor br pages log a) .1)
         ∙ page-mended E pages (pagesIn pages) 0 i (λ k x y. length-mended (committed E) E k (pageAt k pages) (page-length pages k (omega arith)) (a .roomy k (omega arith))) l
         ∙ ap (λ (k : ℕ). mend E k (pageAt k pages)) (zero-add i)
 
-    pub slot-after : (k : ℕ) → slotAt (pageAt i (recoverOf (lent magic floor pages log) table .pages)) k ≡ decided (committed E) E i k (slotAt (pageAt i pages) k)
+    pub slot-after : (k : ℕ) → slotAt (pageAt i (recoverOf (lent magic floor br pages log) table .pages)) k ≡ decided (committed E) E i k (slotAt (pageAt i pages) k)
     unfolding mend
     slot-after k = ap (λ (p : List ℕ). slotAt p k) page-after ∙ slot-mended (committed E) E i (pageAt i pages) (page-length pages i l) (a .roomy i l) k
 
@@ -93,9 +94,9 @@ log-in-turn full s h =
     let b = then-zero (orderFrom full [] (entries s) first) (endVerdict (readAt s (endOf s)) (endOf s)) (a .1) in
     in-turn full [] (entries s) first (b .0)
 
-page-accepts : (full : ℕ → Bool) (magic floor : ℕ) (pages log : List ℕ) → Accepted full magic floor pages log → (i : ℕ) → i < pagesIn pages
+page-accepts : (full : ℕ → Bool) (magic floor : ℕ) (br : Branches) (pages log : List ℕ) → Accepted full magic floor br pages log → (i : ℕ) → i < pagesIn pages
     → Accepts (committed (entries log)) magic floor (lastLsn (entries log)) (entries log) i (pageAt i pages)
-page-accepts full magic floor pages log a i l =
+page-accepts full magic floor br pages log a i l =
     record {
       good = sound-good magic i (pageAt i pages) (page-length pages i l) (a .sane i l .sound);
       lsnKnown = a .sane i l .lsnKnown;
@@ -103,8 +104,8 @@ page-accepts full magic floor pages log a i l =
       hasRoom = a .roomy i l;
     }
 
-module _ (full : ℕ → Bool) (magic floor₁ floor : ℕ) (P L₁ L₂ : List ℕ) (bP : Bytes P) (b₁ : Bytes L₁) (b₂ : Bytes L₂) (longer : (fs : List Entry) × (entries L₁ ++ fs ≡ entries L₂))
-    (A₁ : Accepted full magic floor₁ P L₁) (A₂ : Accepted full magic floor P L₂) where
+module _ (full : ℕ → Bool) (magic floor₁ floor : ℕ) (br : Branches) (P L₁ L₂ : List ℕ) (bP : Bytes P) (b₁ : Bytes L₁) (b₂ : Bytes L₂) (longer : (fs : List Entry) × (entries L₁ ++ fs ≡ entries L₂))
+    (A₁ : Accepted full magic floor₁ br P L₁) (A₂ : Accepted full magic floor br P L₂) where
   abbrev E₁ : List Entry
   E₁ = entries L₁
 
@@ -127,10 +128,10 @@ module _ (full : ℕ → Bool) (magic floor₁ floor : ℕ) (P L₁ L₂ : List 
   one-page : (i : ℕ) → i < pagesIn P
       → Accepts (committed E₂) magic floor (lastLsn E₂) E₂ i (mend E₁ i (pageAt i P)) × (mend E₂ i (mend E₁ i (pageAt i P)) ≡ mend E₂ i (pageAt i P))
   unfolding mend
-  one-page i l = go E₂ (longer .1) (page-accepts full magic floor P L₂ A₂ i l) (lsns i) small
+  one-page i l = go E₂ (longer .1) (page-accepts full magic floor br P L₂ A₂ i l) (lsns i) small
     where
       a₁ : Accepts (committed E₁) magic floor₁ (lastLsn E₁) E₁ i (pageAt i P)
-      a₁ = page-accepts full magic floor₁ P L₁ A₁ i l
+      a₁ = page-accepts full magic floor₁ br P L₁ A₁ i l
 
       b : Bytes (pageAt i P)
       b = bytes-take pageBytes (bytes-drop (i * pageBytes) bP)
@@ -158,7 +159,7 @@ module _ (full : ℕ → Bool) (magic floor₁ floor : ℕ) (P L₁ L₂ : List 
     page-q i l = go (each i l)
       where
         go : (pageAt i Q ≡ pageAt i P) ⊎ (pageAt i Q ≡ mend E₁ i (pageAt i P)) → Accepts (committed E₂) magic floor (lastLsn E₂) E₂ i (pageAt i Q)
-        go (inl e) = subst (λ (q : List ℕ). Accepts (committed E₂) magic floor (lastLsn E₂) E₂ i q) (sym e) (page-accepts full magic floor P L₂ A₂ i l)
+        go (inl e) = subst (λ (q : List ℕ). Accepts (committed E₂) magic floor (lastLsn E₂) E₂ i q) (sym e) (page-accepts full magic floor br P L₂ A₂ i l)
         go (inr e) = subst (λ (q : List ℕ). Accepts (committed E₂) magic floor (lastLsn E₂) E₂ i q) (sym e) (one-page i l .0)
 
     mend-q : (i : ℕ) → i < pagesIn P → mend E₂ i (pageAt i Q) ≡ mend E₂ i (pageAt i P)
@@ -168,7 +169,7 @@ module _ (full : ℕ → Bool) (magic floor₁ floor : ℕ) (P L₁ L₂ : List 
         go (inl e) = ap (mend E₂ i) e
         go (inr e) = ap (mend E₂ i) e ∙ one-page i l .1
 
-    again-accepted : Accepted full magic floor Q L₂
+    again-accepted : Accepted full magic floor br Q L₂
     unfolding sizeWrong
     again-accepted =
         record {
@@ -180,6 +181,7 @@ module _ (full : ℕ → Bool) (magic floor₁ floor : ℕ) (P L₁ L₂ : List 
           onData = λ i t.
               let b = A₂ .onData i t in
               record { within = omega (arith, count-same, b .within); isData = page-q i (b .within) .isData t };
+          own = A₂ .own;
           roomy = λ i l. page-q i (omega (arith, count-same)) .hasRoom;
         }
 
@@ -187,38 +189,38 @@ module _ (full : ℕ → Bool) (magic floor₁ floor : ℕ) (P L₁ L₂ : List 
     again-pages = ap (λ (n : ℕ). mendedFrom E₂ Q n 0) count-same ∙ mended-alike E₂ Q P (pagesIn P) 0 (λ k a b. mend-q k (omega arith))
 
 -- the theorem, of any pages and any two logs of which one begins with the other's entries
-module _ (magic floor₁ floor : ℕ) (P L₁ L₂ : List ℕ) (bP : Bytes P) (b₁ : Bytes L₁) (b₂ : Bytes L₂) (longer : (fs : List Entry) × (entries L₁ ++ fs ≡ entries L₂)) (T₁ T₂ T₃ : List Record)
-    (t₁ : length T₁ ≡ length T₂) (t₃ : length T₃ ≡ length T₂) (ok : recoverOf (lent magic floor P L₂) T₂ .answer .number ≡ 0)
+module _ (magic floor₁ floor : ℕ) (br : Branches) (P L₁ L₂ : List ℕ) (bP : Bytes P) (b₁ : Bytes L₁) (b₂ : Bytes L₂) (longer : (fs : List Entry) × (entries L₁ ++ fs ≡ entries L₂)) (T₁ T₂ T₃ : List Record)
+    (t₁ : length T₁ ≡ length T₂) (t₃ : length T₃ ≡ length T₂) (ok : recoverOf (lent magic floor br P L₂) T₂ .answer .number ≡ 0)
     (Q : List ℕ) (same : length Q ≡ length P)
-    (each : (i : ℕ) → i < pagesIn P → (pageAt i Q ≡ pageAt i P) ⊎ (pageAt i Q ≡ pageAt i (recoverOf (lent magic floor₁ P L₁) T₁ .pages))) where
-  A : Accepted (fullAt (length T₂)) magic floor P L₂
-  A = zero-accepted magic floor P L₂ T₂ ok
+    (each : (i : ℕ) → i < pagesIn P → (pageAt i Q ≡ pageAt i P) ⊎ (pageAt i Q ≡ pageAt i (recoverOf (lent magic floor₁ br P L₁) T₁ .pages))) where
+  A : Accepted (fullAt (length T₂)) magic floor br P L₂
+  A = zero-accepted magic floor br P L₂ T₂ ok
 
   abbrev Ends : Type 0
-  Ends = (recoverOf (lent magic floor Q L₂) T₃ .answer ≡ recoverOf (lent magic floor P L₂) T₂ .answer)
-      × (recoverOf (lent magic floor Q L₂) T₃ .pages ≡ recoverOf (lent magic floor P L₂) T₂ .pages)
+  Ends = (recoverOf (lent magic floor br Q L₂) T₃ .answer ≡ recoverOf (lent magic floor br P L₂) T₂ .answer)
+      × (recoverOf (lent magic floor br Q L₂) T₃ .pages ≡ recoverOf (lent magic floor br P L₂) T₂ .pages)
 
   -- from an accepted first run; a refused one left every page as it was, so the longer log itself serves as the shorter
-  ends : (L : List ℕ) (f : ℕ) → Bytes L → (fs : List Entry) × (entries L ++ fs ≡ entries L₂) → Accepted (fullAt (length T₂)) magic f P L
+  ends : (L : List ℕ) (f : ℕ) → Bytes L → (fs : List Entry) × (entries L ++ fs ≡ entries L₂) → Accepted (fullAt (length T₂)) magic f br P L
       → ((i : ℕ) → i < pagesIn P → (pageAt i Q ≡ pageAt i P) ⊎ (pageAt i Q ≡ mend (entries L) i (pageAt i P))) → Ends
   ends L f b l a h =
       let n : pagesIn Q ≡ pagesIn P = ap (λ (n : ℕ). n / pageBytes) same in
-      let acc = again-accepted (fullAt (length T₂)) magic f floor P L L₂ bP b b₂ l a A Q same h in
-      let v : recoverVerdict (fullAt (length T₃)) (lent magic floor Q L₂) .number ≡ 0 = rw t₃ (accepted-is (fullAt (length T₂)) magic floor Q L₂ acc) in
-      let d = recover-done magic floor Q L₂ T₃ v in
-      let e = recover-done magic floor P L₂ T₂ (recover-zero magic floor P L₂ T₂ ok) in (
+      let acc = again-accepted (fullAt (length T₂)) magic f floor br P L L₂ bP b b₂ l a A Q same h in
+      let v : recoverVerdict (fullAt (length T₃)) (lent magic floor br Q L₂) .number ≡ 0 = rw t₃ (accepted-is (fullAt (length T₂)) magic floor br Q L₂ acc) in
+      let d = recover-done magic floor br Q L₂ T₃ v in
+      let e = recover-done magic floor br P L₂ T₂ (recover-zero magic floor br P L₂ T₂ ok) in (
         d .0 ∙ ap (done (entries L₂) (endOf L₂) (endingNumber (endingOf L₂))) n ∙ sym (e .0),
-        d .1 ∙ again-pages (fullAt (length T₂)) magic f floor P L L₂ bP b b₂ l a A Q same h ∙ sym (e .1),
+        d .1 ∙ again-pages (fullAt (length T₂)) magic f floor br P L L₂ bP b b₂ l a A Q same h ∙ sym (e .1),
       )
 
   pub again : Ends
-  again = go (eqb (recoverVerdict (fullAt (length T₁)) (lent magic floor₁ P L₁) .number) 0) refl
+  again = go (eqb (recoverVerdict (fullAt (length T₁)) (lent magic floor₁ br P L₁) .number) 0) refl
     where
-      go : (b : Bool) → eqb (recoverVerdict (fullAt (length T₁)) (lent magic floor₁ P L₁) .number) 0 ≡ b → Ends
+      go : (b : Bool) → eqb (recoverVerdict (fullAt (length T₁)) (lent magic floor₁ br P L₁) .number) 0 ≡ b → Ends
       go true e =
-          let v : recoverVerdict (fullAt (length T₁)) (lent magic floor₁ P L₁) .number ≡ 0 = eqb-true _ _ e in
-          let a : Accepted (fullAt (length T₁)) magic floor₁ P L₁ = is-accepted (fullAt (length T₁)) magic floor₁ P L₁ v in
-          ends L₁ floor₁ b₁ longer (rw t₁ at a) (λ i l. ⊎-elim {C = (pageAt i Q ≡ pageAt i P) ⊎ (pageAt i Q ≡ mend (entries L₁) i (pageAt i P))} (λ h. inl h) (λ h. inr (h ∙ page-after magic floor₁ P L₁ T₁ a i l)) (each i l))
+          let v : recoverVerdict (fullAt (length T₁)) (lent magic floor₁ br P L₁) .number ≡ 0 = eqb-true _ _ e in
+          let a : Accepted (fullAt (length T₁)) magic floor₁ br P L₁ = is-accepted (fullAt (length T₁)) magic floor₁ br P L₁ v in
+          ends L₁ floor₁ b₁ longer (rw t₁ at a) (λ i l. ⊎-elim {C = (pageAt i Q ≡ pageAt i P) ⊎ (pageAt i Q ≡ mend (entries L₁) i (pageAt i P))} (λ h. inl h) (λ h. inr (h ∙ page-after magic floor₁ br P L₁ T₁ a i l)) (each i l))
       go false e =
-          let p : recoverOf (lent magic floor₁ P L₁) T₁ .pages ≡ P = ap (λ (r : Recovered). r .pages) (recover-refused magic floor₁ P L₁ T₁ e) in
+          let p : recoverOf (lent magic floor₁ br P L₁) T₁ .pages ≡ P = ap (λ (r : Recovered). r .pages) (recover-refused magic floor₁ br P L₁ T₁ e) in
           ends L₂ floor b₂ ([], append-nil (entries L₂)) A (λ i l. inl (⊎-elim {C = pageAt i Q ≡ pageAt i P} (λ h. h) (λ h. h ∙ ap (pageAt i) p) (each i l)))

@@ -6,6 +6,7 @@ pub mod Tests
 pub mod OrderLaws
 pub mod ImageLaws
 pub mod Verdicts
+pub mod Earliest
 pub mod Range
 pub mod Area
 pub mod Again

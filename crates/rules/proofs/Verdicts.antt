@@ -27,7 +27,8 @@ use Rattle.refusals.proofs.Then.{then-zero, zero-then}
 use Rattle.rules.specs.Shape.{both, either, isChange, pageOf, slotOf, isOn, topOn}
 use Rattle.rules.specs.Order.{lastLsn, orderFrom, endVerdict, logVerdict}
 use Rattle.rules.specs.Mend.{committed, topOf, slotsFor, Accepts}
-use Rattle.rules.specs.Recover.{pagesFrom, isStray, strayFrom, isTouched, isTight, tightFrom, recoverVerdict}
+use Rattle.rules.specs.Branch.{Branches, isForeign}
+use Rattle.rules.specs.Recover.{pagesFrom, isStray, earliest, strayFrom, foreignFrom, isTouched, isTight, tightFrom, recoverVerdict}
 use Rattle.rules.proofs.Tests.{both-true, either-false, false-true}
 use Rattle.rules.proofs.OrderLaws.{Every}
 use Rattle.rules.specs.Lent.{lent}
@@ -77,17 +78,31 @@ module _ (magic floor last : ℕ) (s : List ℕ) where
 
 -- ---- changes
 
+-- no entry passes a test that would refuse it, and the other way
+module _ (n : ℕ) (f : Entry → Bool) where
+  pub earliest-none : (es : List Entry) (at : ℕ) → earliest (suc n) f es at .number ≡ 0 → Every (λ e. f e ≡ false) es
+  unfolding earliest
+  earliest-none [] at h = tt
+  earliest-none (e ∷ es) at h =
+      let y = unrefused (f e) (verdict (suc n) at) _ (λ k. omega arith) h in
+      (y .0, earliest-none es (at + sizeOf e) (y .1))
+
+  pub none-earliest : (es : List Entry) (at : ℕ) → Every (λ e. f e ≡ false) es → earliest (suc n) f es at ≡ accepted
+  unfolding earliest
+  none-earliest [] at h = refl
+  none-earliest (e ∷ es) at h = rw (h .0) (none-earliest es (at + sizeOf e) (h .1))
+
 pub stray-none : (s : List ℕ) (es : List Entry) (at : ℕ) → strayFrom s es at .number ≡ 0 → Every (λ e. isStray s e ≡ false) es
-unfolding strayFrom
-stray-none s [] at h = tt
-stray-none s (e ∷ es) at h =
-    let y = unrefused (isStray s e) (verdict 13 at) _ (λ k. omega arith) h in
-    (y .0, stray-none s es (at + sizeOf e) (y .1))
+stray-none s es at h = earliest-none 12 (isStray s) es at h
 
 pub none-stray : (s : List ℕ) (es : List Entry) (at : ℕ) → Every (λ e. isStray s e ≡ false) es → strayFrom s es at .number ≡ 0
-unfolding strayFrom
-none-stray s [] at h = refl
-none-stray s (e ∷ es) at h = rw (h .0) (none-stray s es (at + sizeOf e) (h .1))
+none-stray s es at h = ap (λ (v : Verdict). v .number) (none-earliest 12 (isStray s) es at h)
+
+pub foreign-none : (br : Branches) (es : List Entry) (at : ℕ) → foreignFrom br es at .number ≡ 0 → Every (λ e. isForeign br e ≡ false) es
+foreign-none br es at h = earliest-none 20 (isForeign br) es at h
+
+pub none-foreign : (br : Branches) (es : List Entry) (at : ℕ) → Every (λ e. isForeign br e ≡ false) es → foreignFrom br es at .number ≡ 0
+none-foreign br es at h = ap (λ (v : Verdict). v .number) (none-earliest 20 (isForeign br) es at h)
 
 -- a touched page is lent, and a Data page
 pub record OnData (s : List ℕ) (i : ℕ) : Type 0 where
@@ -173,37 +188,42 @@ module _ (es : List Entry) (s : List ℕ) where
 
 -- ---- all of it
 
-pub record Accepted (full : ℕ → Bool) (magic floor : ℕ) (pages log : List ℕ) : Type 0 where
+pub record Accepted (full : ℕ → Bool) (magic floor : ℕ) (br : Branches) (pages log : List ℕ) : Type 0 where
   pub size : sizeWrong pages ≡ false
   pub logOk : logVerdict full log .number ≡ 0
   pub sane : (i : ℕ) → i < pagesIn pages → Sane magic floor (lastLsn (entries log)) pages i
   pub onData : (i : ℕ) → 0 < topOf i (entries log) → OnData pages i
+  pub own : Every (λ e. isForeign br e ≡ false) (entries log)
   pub roomy : (i : ℕ) → i < pagesIn pages → Roomy (entries log) pages i
 
-module _ (full : ℕ → Bool) (magic floor : ℕ) (pages log : List ℕ) where
-  pub is-accepted : recoverVerdict full (lent magic floor pages log) .number ≡ 0 → Accepted full magic floor pages log
+module _ (full : ℕ → Bool) (magic floor : ℕ) (br : Branches) (pages log : List ℕ) where
+  pub is-accepted : recoverVerdict full (lent magic floor br pages log) .number ≡ 0 → Accepted full magic floor br pages log
   unfolding recoverVerdict
   is-accepted h =
       let a = then-zero (pick (sizeWrong pages) (verdict 1 0) accepted) _ h in
       let z = unrefused (sizeWrong pages) (verdict 1 0) accepted (λ k. omega arith) (a .0) in
       let b = then-zero (logVerdict full log) _ (a .1) in
       let c = then-zero (pagesFrom magic floor (lastLsn (entries log)) pages (pagesIn pages) 0) _ (b .1) in
-      let d = then-zero (strayFrom pages (entries log) first) (tightFrom (entries log) pages (pagesIn pages) 0) (c .1) in
+      let d = then-zero (strayFrom pages (entries log) first) _ (c .1) in
+      let f = then-zero (foreignFrom br (entries log) first) (tightFrom (entries log) pages (pagesIn pages) 0) (d .1) in
       record {
         size = z .0;
         logOk = b .0;
         sane = λ i l. pages-sane magic floor (lastLsn (entries log)) pages (pagesIn pages) 0 (c .0) i (omega arith) (omega arith);
         onData = λ i t. lent-all pages i (entries log) (stray-none pages (entries log) first (d .0)) t;
-        roomy = λ i l. tight-none (entries log) pages (pagesIn pages) 0 (d .1) i (omega arith) (omega arith);
+        own = foreign-none br (entries log) first (f .0);
+        roomy = λ i l. tight-none (entries log) pages (pagesIn pages) 0 (f .1) i (omega arith) (omega arith);
       }
 
-  pub accepted-is : Accepted full magic floor pages log → recoverVerdict full (lent magic floor pages log) .number ≡ 0
+  pub accepted-is : Accepted full magic floor br pages log → recoverVerdict full (lent magic floor br pages log) .number ≡ 0
   unfolding recoverVerdict
   accepted-is a =
       zero-then (pick (sizeWrong pages) (verdict 1 0) accepted) _ (rw (a .size))
       (zero-then (logVerdict full log) _ (a .logOk)
       (zero-then (pagesFrom magic floor (lastLsn (entries log)) pages (pagesIn pages) 0) _
       (sane-pages magic floor (lastLsn (entries log)) pages (pagesIn pages) 0 (λ j l k. a .sane j (omega arith)))
-      (zero-then (strayFrom pages (entries log) first) (tightFrom (entries log) pages (pagesIn pages) 0)
+      (zero-then (strayFrom pages (entries log) first) _
       (none-stray pages (entries log) first (all-lent pages (entries log) (a .onData)))
-      (none-tight (entries log) pages (pagesIn pages) 0 (λ j l k. a .roomy j (omega arith))))))
+      (zero-then (foreignFrom br (entries log) first) (tightFrom (entries log) pages (pagesIn pages) 0)
+      (none-foreign br (entries log) first (a .own))
+      (none-tight (entries log) pages (pagesIn pages) 0 (λ j l k. a .roomy j (omega arith)))))))

@@ -4,7 +4,7 @@ use mathlib.Core.List.{List, [], _∷_, _++_}
 use mathlib.Core.Bool.{Bool, not}
 use lib.ListN.{length, drop}
 use lib.Dec.{ltb, leb, eqb}
-use Rattle.refusals.specs.Refusal.{pageArea, noDataPage, pageOverfull}
+use Rattle.refusals.specs.Refusal.{pageArea, noDataPage, pageOverfull, wrongBranch}
 use Rattle.endian.specs.Pick.{pick, consIf}
 use Rattle.wal.specs.Entry.{Entry, sizeOf, begin, commit, rollback}
 use Rattle.wal.specs.Read.{first}
@@ -17,11 +17,12 @@ use Rattle.refusals.specs.declared.Verdict.{Verdict}
 use Rattle.rules.specs.Shape.{both, either, isChange, pageOf}
 use Rattle.rules.specs.Order.{one, count, any, is, isBegin, lastLsn, fullAt, logVerdict}
 use Rattle.rules.specs.Mend.{committed, topOf, slotsFor, mend}
+use Rattle.rules.specs.Branch.{Branches, isForeign}
 use Rattle.rules.specs.Lent.{Lent}
 use Rattle.rules.specs.declared.Answer.{Answer}
 use Rattle.rules.specs.declared.Record.{Record}
 
--- ---- refusals of the pages, then 13 and 14, each the first in its order
+-- ---- refusals of the pages, then 13, 21 and 14, each the first in its order
 
 -- page by page, its fault (11, 17, 18, 19) before 12: an LSN above both the floor and the last LSN
 abbrev pub pagesFrom : ℕ → ℕ → ℕ → List ℕ → ℕ → ℕ → Verdict
@@ -31,10 +32,18 @@ pagesFrom magic floor last s n i = firstBad (lateAt (max floor last)) magic s n 
 unfoldable pub isStray : List ℕ → Entry → Bool
 isStray s e = both (isChange e) (either (leb (pagesIn s) (pageOf e)) (not (eqb (typeOf (pageAt (pageOf e) s)) dataType)))
 
--- 13, the earliest entry, the first of which stands at a place
-unfoldable pub strayFrom : List ℕ → List Entry → ℕ → Verdict
-strayFrom s [] at = accepted
-strayFrom s (e ∷ es) at = pick (isStray s e) (verdict noDataPage at) (strayFrom s es (at + sizeOf e))
+-- a refusal at the earliest of some entries that passes a test, the first of which stands at a place
+unfoldable pub earliest : ℕ → (Entry → Bool) → List Entry → ℕ → Verdict
+earliest number f [] at = accepted
+earliest number f (e ∷ es) at = pick (f e) (verdict number at) (earliest number f es (at + sizeOf e))
+
+-- 13
+abbrev pub strayFrom : List ℕ → List Entry → ℕ → Verdict
+strayFrom s es at = earliest noDataPage (isStray s) es at
+
+-- 21
+abbrev pub foreignFrom : Branches → List Entry → ℕ → Verdict
+foreignFrom br es at = earliest wrongBranch (isForeign br) es at
 
 -- page i is touched
 abbrev pub isTouched : List Entry → ℕ → Bool
@@ -49,13 +58,14 @@ unfoldable pub tightFrom : List Entry → List ℕ → ℕ → ℕ → Verdict
 tightFrom es s zero i = accepted
 tightFrom es s (suc n) i = pick (isTight es s i) (verdict pageOverfull i) (tightFrom es s n (suc i))
 
--- the verdict of recovery: 1, 2, 3; then entry by entry, 4 to 10 in turn; then page by page, 11, 17, 18, 19, 12 in turn; then 13; then 14
+-- the verdict of recovery: 1, 2, 3; then entry by entry, 4 to 10 in turn; then page by page, 11, 17, 18, 19, 12 in turn; then 13; then 21; then 14
 unfoldable pub recoverVerdict : (ℕ → Bool) → Lent → Verdict
 recoverVerdict full x =
     pick (sizeWrong (x .pages)) (verdict pageArea 0) accepted
     then logVerdict full (x .log)
     then pagesFrom (x .magic) (x .floor) (lastLsn (entries (x .log))) (x .pages) (pagesIn (x .pages)) 0
     then strayFrom (x .pages) (entries (x .log)) first
+    then foreignFrom (x .branches) (entries (x .log)) first
     then tightFrom (entries (x .log)) (x .pages) (pagesIn (x .pages)) 0
 
 -- ---- transactions and counts, from the entries themselves

@@ -163,11 +163,12 @@ fn listing() {
     let pages = area(ORDINARY, Order::Packed);
     let total = PAGES * ORDINARY.0;
     let mut rows = vec![0u64; total * library::ROW_NUMBERS];
+    let owners = vec![1; PAGES];
     let v = best(5, || library::verify(MAGIC, black_box(&pages)).number);
     let l = best(5, || {
-        library::list_visible(MAGIC, black_box(&pages), 0, 0, &mut rows).count
+        library::list_visible(MAGIC, black_box(&pages), &owners, 1, 0, 0, &mut rows).count
     });
-    let listed = library::list_visible(MAGIC, &pages, 0, 0, &mut rows);
+    let listed = library::list_visible(MAGIC, &pages, &owners, 1, 0, 0, &mut rows);
     assert_eq!((listed.count, listed.page), (total as u64, PAGES as u64));
     println!(
         "listing {total} rows: {:.2} ms, one verification {:.2} ms: {}",

@@ -103,7 +103,11 @@ fn zeros() {
     let mut log = vec![0u8; 16 << 20];
     log[..6].copy_from_slice(&[0x57, 0x41, 0x4C, 0x4E, 1, 0]);
     let step = || library::log_forward(black_box(&log), 32).kind;
-    let recovery = || library::recover(0, 0, &mut [], black_box(&log), &mut []).ending;
+    let none = library::Branches {
+        tables: &[],
+        pages: &[],
+    };
+    let recovery = || library::recover(0, 0, none, &mut [], black_box(&log), &mut []).ending;
     assert_eq!(
         (step(), recovery()),
         (library::STEP_UNUSED, library::ENDED_UNUSED)

@@ -1,7 +1,9 @@
 //! Cases at the limits, and one past each; and shapes that would cost a careless program dear. Each has a seed of its own
 //! above those of random cases, so that it is replayed like them.
 
-use generate::{live_tuple, log_header, plain_page, Aim, Case, DataPage, Earlier, Entry};
+use generate::{
+    live_tuple, log_header, one_branch, plain_page, Aim, Case, DataPage, Earlier, Entry,
+};
 use generate::{Rng, Slots, BEGIN, CHECKPOINT, COMMIT, FREE, ROLLBACK};
 use oracle::{crc32c, MAX_LOG_BYTES, MAX_PAGES, PAGE_BYTES};
 
@@ -120,6 +122,8 @@ pub(crate) fn limit(seed: u64) -> Option<Case> {
         kind,
         magic: MAGIC,
         floor: 0,
+        branches: one_branch(&input.log, input.pages.len() / PAGE_BYTES),
+        branch: 1,
         page: 0,
         slot: 1,
         map_len: input.pages.len().div_ceil(PAGE_BYTES).div_ceil(8),

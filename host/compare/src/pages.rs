@@ -112,8 +112,11 @@ fn broken_rule(case: &Case, place: u64) -> &'static str {
 fn visible_rows(subject: &mut Subject, seen: &mut Seen) {
     let case = subject.case;
     let mut next = |page: u64, slot: u16| {
-        let library = library::next_visible(case.magic, &case.pages, page, slot);
-        let oracle = twin::visible(oracle::next_visible(case.magic, &case.pages, page, slot));
+        let (magic, pages) = (case.magic, &case.pages);
+        let (owners, branch) = (&case.branches.pages, case.branch);
+        let library = library::next_visible(magic, pages, owners, branch, page, slot);
+        let oracle = oracle::next_visible(magic, pages, owners, branch, page, slot);
+        let oracle = twin::visible(oracle);
         seen.answers(
             "next_visible",
             library.number,
@@ -149,7 +152,7 @@ fn visible_rows(subject: &mut Subject, seen: &mut Seen) {
 }
 
 /// A listing of the library, and the same of the second program.
-type List<Answer> = fn(u64, &[u8], u64, u16, &mut [u64]) -> Answer;
+type List<Answer> = fn(u64, &[u8], &[u64], u64, u64, u16, &mut [u64]) -> Answer;
 type Lists = (&'static str, List<library::Listing>, List<oracle::Listing>);
 
 const LISTS: [Lists; 2] = [
@@ -197,10 +200,13 @@ fn listing(
 ) -> library::Listing {
     let before = vec![ROW_MARK; length];
     let mut lent = Lent::new(&before, 0, ROW_EDGE);
-    let given = library(case.magic, &case.pages, page, slot, lent.items());
+    let (magic, pages) = (case.magic, &case.pages);
+    let (owners, branch) = (&case.branches.pages, case.branch);
+    let given = library(magic, pages, owners, branch, page, slot, lent.items());
     let (left, edges_kept) = lent.taken_back();
     let mut expected = before;
-    let other = twin::listing(oracle(case.magic, &case.pages, page, slot, &mut expected));
+    let other = oracle(magic, pages, owners, branch, page, slot, &mut expected);
+    let other = twin::listing(other);
     seen.answers(
         name,
         given.number,

@@ -1,7 +1,7 @@
 //! Recovery: the answer, every page byte and every number of the table; the ledger of an honest history; runs that are
 //! broken off and repeated.
 
-use generate::{ledger, tuples_on, Case};
+use generate::{ledger, tuples_on, Case, Tables};
 use library::{Answer, RECORD_NUMBERS};
 use oracle::{Record, PAGE_BYTES};
 
@@ -14,12 +14,15 @@ const PAGE_EDGE: u8 = 0x5A;
 const TABLE_EDGE: u64 = 0x5A5A_5A5A_5A5A_5A5A;
 
 /// What recovery answers.
-const ANSWERED: &[u64] = &[0, 1, 2, 3, 4, 5, 6, 7, 8, 9, 10, 11, 12, 13, 14, 17, 18, 19];
+const ANSWERED: &[u64] = &[
+    0, 1, 2, 3, 4, 5, 6, 7, 8, 9, 10, 11, 12, 13, 14, 17, 18, 19, 21,
+];
 
 /// What a run of recovery is given besides the magic.
 #[derive(Clone, Copy)]
 struct Given<'a> {
     floor: u64,
+    branches: &'a Tables,
     pages: &'a [u8],
     log: &'a [u8],
     table_len: usize,
@@ -62,6 +65,7 @@ fn spare(case: &Case) -> usize {
 fn asked(case: &Case) -> Given<'_> {
     Given {
         floor: case.floor,
+        branches: &case.branches,
         pages: &case.pages,
         log: &case.log,
         table_len: case.records * RECORD_NUMBERS + spare(case),
@@ -116,7 +120,14 @@ fn by_library(magic: u64, given: Given, shift: usize) -> (Left, bool) {
     let mut pages = Lent::new(given.pages, shift, PAGE_EDGE);
     let mut table = Lent::new(&marked_table(given.table_len), 0, TABLE_EDGE);
     let log = given.log.to_vec();
-    let answer = library::recover(magic, given.floor, pages.items(), &log, table.items());
+    let answer = library::recover(
+        magic,
+        given.floor,
+        twin::branches(given.branches),
+        pages.items(),
+        &log,
+        table.items(),
+    );
     let (pages, pages_kept) = pages.taken_back();
     let (table, table_kept) = table.taken_back();
     let kept = pages_kept && table_kept && log == given.log;
@@ -139,7 +150,14 @@ fn by_oracle(magic: u64, given: Given) -> Left {
             changes: record.changes,
         })
         .collect();
-    let answer = oracle::recover(magic, given.floor, &mut pages, given.log, &mut records);
+    let answer = oracle::recover(
+        magic,
+        given.floor,
+        given.branches.lent(),
+        &mut pages,
+        given.log,
+        &mut records,
+    );
     for (numbers, record) in table.chunks_exact_mut(RECORD_NUMBERS).zip(records) {
         numbers.copy_from_slice(&[
             record.number,

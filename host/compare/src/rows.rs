@@ -11,14 +11,19 @@ use crate::twin;
 const SOME_SLOTS: usize = 2;
 
 /// The refusals that reading a row gives: without a table there is no 10.
-const REFUSED: &[u64] = &[1, 2, 3, 4, 5, 6, 7, 8, 9, 11, 12, 13, 14, 15, 17, 18, 19];
+const REFUSED: &[u64] = &[
+    1, 2, 3, 4, 5, 6, 7, 8, 9, 11, 12, 13, 14, 15, 17, 18, 19, 21,
+];
 
 pub(crate) fn compare(subject: &mut Subject, seen: &mut Seen) {
     for (at, (page, slot)) in asked(subject).into_iter().enumerate() {
         let case = subject.case;
+        let (magic, floor) = (case.magic, case.floor);
         let (pages, log) = (&case.pages, &case.log);
-        let library = library::read_row(case.magic, case.floor, pages, log, page, slot);
-        let oracle = oracle::read_row(case.magic, case.floor, pages, log, page, slot);
+        let branches = twin::branches(&case.branches);
+        let library = library::read_row(magic, floor, branches, pages, log, page, slot);
+        let branches = case.branches.lent();
+        let oracle = oracle::read_row(magic, floor, branches, pages, log, page, slot);
         let oracle = twin::row(oracle);
         seen.answers(
             "read_row",

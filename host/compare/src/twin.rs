@@ -193,3 +193,11 @@ pub fn backward(place: u64, of: Option<oracle::EntryFields>) -> library::Step {
         None => no_entry(library::STEP_END, place),
     }
 }
+
+/// Tables of branches as the library is lent them.
+pub(crate) fn branches(tables: &generate::Tables) -> library::Branches<'_> {
+    library::Branches {
+        tables: &tables.tables,
+        pages: &tables.pages,
+    }
+}

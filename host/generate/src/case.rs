@@ -1,5 +1,6 @@
 //! One complete input for every seed, of a kind that the seed chooses.
 
+use crate::branches::{any_branch, any_tables, fitting, targets, Tables};
 use crate::draft::Draft;
 use crate::entry::LOG_HEADER_BYTES;
 use crate::history::History;
@@ -17,6 +18,9 @@ pub struct Case {
     pub kind: &'static str,
     pub magic: u64,
     pub floor: u64,
+    /// The two lent tables, and the branch whose rows are listed.
+    pub branches: Tables,
+    pub branch: u64,
     pub pages: Vec<u8>,
     pub log: Vec<u8>,
     /// How many records the lent table has.
@@ -313,6 +317,17 @@ fn finish(rng: &mut Rng, seed: u64, kind: &'static str, draft: Draft) -> Case {
         page = get_u64(piece, 27);
         slot = get_u16(piece, 35);
     }
+    let branches = match &draft.branches {
+        Some(made) => made.clone(),
+        None if kind.starts_with("random") || (kind == "wild" && rng.one_in(4)) => {
+            any_tables(rng, draft.page_count())
+        }
+        None => fitting(rng, &targets(&draft), draft.page_count()),
+    };
+    let branch = match branches.pages.is_empty() || rng.one_in(4) {
+        true => any_branch(rng),
+        false => *rng.pick(&branches.pages),
+    };
     let end = log.len() as u64;
     let place = match rng.below(6) {
         0 => rng.number(),
@@ -325,6 +340,8 @@ fn finish(rng: &mut Rng, seed: u64, kind: &'static str, draft: Draft) -> Case {
         kind,
         magic: draft.magic,
         floor: draft.floor,
+        branches,
+        branch,
         pages: draft.pages,
         log,
         records: draft.records,

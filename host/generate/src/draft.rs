@@ -3,6 +3,7 @@
 
 use std::collections::BTreeSet;
 
+use crate::branches::Tables;
 use crate::entry::{seal_entry, Entry, BEGIN, COMMIT, ROLLBACK};
 use crate::history::History;
 use crate::ledger::whole_entries;
@@ -24,6 +25,8 @@ pub struct Draft {
     pub page: u64,
     pub slot: u16,
     pub map_len: usize,
+    /// The tables of branches where a mutation has made them; else such as fit.
+    pub branches: Option<Tables>,
 }
 
 /// How the transactions stand before an entry of the log.
@@ -95,6 +98,7 @@ impl Draft {
             page: rng.below(page_count as u64 + 1),
             slot: history.style.slot(rng),
             map_len: page_count.div_ceil(8) + rng.size(0, 2),
+            branches: None,
             pages,
         }
     }

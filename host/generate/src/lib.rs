@@ -1,6 +1,7 @@
 //! Seeded random inputs for programs that recover pages from a log: honest
 //! histories, mutations that aim at every refusal, and plain nonsense.
 
+mod branches;
 mod case;
 mod catalog;
 mod draft;
@@ -10,6 +11,7 @@ mod intake;
 mod ledger;
 mod moments;
 mod mutate;
+mod mutate_branches;
 mod mutate_entry;
 mod mutate_input;
 mod mutate_log;
@@ -20,6 +22,7 @@ mod style;
 mod summary;
 mod wild;
 
+pub use branches::{one_branch, Tables};
 pub use case::{case, mutated_by, Case, Earlier, Honest};
 pub use catalog::{catalog, catalog_id, table_payload, Catalog, CatalogRow, TableParts};
 pub use draft::{Draft, Standing};

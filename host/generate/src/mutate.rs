@@ -3,7 +3,7 @@
 
 use crate::draft::Draft;
 use crate::rng::Rng;
-use crate::{mutate_entry, mutate_input, mutate_log, mutate_page};
+use crate::{mutate_branches, mutate_entry, mutate_input, mutate_log, mutate_page};
 
 /// The number and place that an input was made to be answered with.
 #[derive(Clone, Copy, Debug, PartialEq, Eq)]
@@ -51,6 +51,7 @@ pub fn mutations() -> Vec<Mutation> {
         mutate_entry::MUTATIONS,
         mutate_page::MUTATIONS,
         mutate_input::MUTATIONS,
+        mutate_branches::MUTATIONS,
     ]
     .concat()
 }

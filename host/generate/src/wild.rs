@@ -31,6 +31,7 @@ pub fn wild(rng: &mut Rng) -> Draft {
         page: 0,
         slot: 0,
         map_len: 1,
+        branches: None,
     };
     let entries = rng.size(0, if style == Style::Full { 6 } else { 40 });
     add_entries(rng, style, &mut draft, entries);
@@ -184,6 +185,7 @@ pub fn random_bytes(rng: &mut Rng) -> Draft {
         page: rng.below(5),
         slot: rng.below(9) as u16,
         map_len: rng.size(0, 2),
+        branches: None,
     }
 }
 

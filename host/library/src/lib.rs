@@ -5,7 +5,7 @@ mod c;
 pub mod refusal;
 
 /// The version of the C interface that these functions are for.
-pub const VERSION: u32 = 1;
+pub const VERSION: u32 = 2;
 
 /// The bytes of a page.
 pub const PAGE_BYTES: usize = 16_384;
@@ -213,6 +213,14 @@ impl Table {
     }
 }
 
+/// The two tables of branches. `tables` are pairs of a table id and its branch, of which the first pair of an id counts
+/// and an odd last number is none; `pages` has the branch of each page, and one past its end has none.
+#[derive(Clone, Copy, Debug)]
+pub struct Branches<'a> {
+    pub tables: &'a [u64],
+    pub pages: &'a [u64],
+}
+
 /// Runs a call that fills an array of numbers. They start as a number that no answer holds, so that one which the call
 /// leaves unwritten is seen.
 fn filled<const N: usize, T: From<[u64; N]>>(call: impl FnOnce(*mut u64, usize)) -> T {
@@ -266,11 +274,22 @@ pub fn verify_from(magic: u64, pages: &[u8], first: u64) -> Verdict {
 
 /// Mends the pages by the log and fills the table: four numbers a record, read by `records`. Refused, pages and table
 /// keep what they hold.
-pub fn recover(magic: u64, floor: u64, pages: &mut [u8], log: &[u8], table: &mut [u64]) -> Answer {
+pub fn recover(
+    magic: u64,
+    floor: u64,
+    branches: Branches,
+    pages: &mut [u8],
+    log: &[u8],
+    table: &mut [u64],
+) -> Answer {
     filled(|out, out_len| unsafe {
         c::lq_recover(
             magic,
             floor,
+            branches.tables.as_ptr(),
+            branches.tables.len(),
+            branches.pages.as_ptr(),
+            branches.pages.len(),
             pages.as_mut_ptr(),
             pages.len(),
             log.as_ptr(),
@@ -291,11 +310,23 @@ pub fn records(table: &[u64]) -> impl Iterator<Item = Record> + '_ {
 }
 
 /// One row as recovery would leave it. Refuses as recovery does but for 10, then 15.
-pub fn read_row(magic: u64, floor: u64, pages: &[u8], log: &[u8], page: u64, slot: u16) -> Row {
+pub fn read_row(
+    magic: u64,
+    floor: u64,
+    branches: Branches,
+    pages: &[u8],
+    log: &[u8],
+    page: u64,
+    slot: u16,
+) -> Row {
     filled(|out, out_len| unsafe {
         c::lq_read_row(
             magic,
             floor,
+            branches.tables.as_ptr(),
+            branches.tables.len(),
+            branches.pages.as_ptr(),
+            branches.pages.len(),
             pages.as_ptr(),
             pages.len(),
             log.as_ptr(),
@@ -308,28 +339,66 @@ pub fn read_row(magic: u64, floor: u64, pages: &[u8], log: &[u8], page: u64, slo
     })
 }
 
-/// The first visible row at or after a slot of a page, or none. Refuses as `verify` does.
-pub fn next_visible(magic: u64, pages: &[u8], page: u64, slot: u16) -> Visible {
+/// The first visible row on a page of a branch, at or after a slot of a page, or none; `owners` has the branch of each
+/// page. Refuses as `verify` does.
+pub fn next_visible(
+    magic: u64,
+    pages: &[u8],
+    owners: &[u64],
+    branch: u64,
+    page: u64,
+    slot: u16,
+) -> Visible {
     filled(|out, out_len| unsafe {
-        c::lq_next_visible(magic, pages.as_ptr(), pages.len(), page, slot, out, out_len)
+        c::lq_next_visible(
+            magic,
+            pages.as_ptr(),
+            pages.len(),
+            owners.as_ptr(),
+            owners.len(),
+            branch,
+            page,
+            slot,
+            out,
+            out_len,
+        )
     })
 }
 
-/// Fills the numbers with visible rows from a slot of a page on, four numbers a row, read by `listed`. Refuses as
+/// Fills the numbers with visible rows of a branch from a slot of a page on, four numbers a row, read by `listed`. Refuses as
 /// `verify` does; the numbers then stay.
-pub fn list_visible(magic: u64, pages: &[u8], page: u64, slot: u16, rows: &mut [u64]) -> Listing {
-    list(c::lq_list_visible, magic, pages, (page, slot), rows)
+pub fn list_visible(
+    magic: u64,
+    pages: &[u8],
+    owners: &[u64],
+    branch: u64,
+    page: u64,
+    slot: u16,
+    rows: &mut [u64],
+) -> Listing {
+    let of = (owners, branch);
+    list(c::lq_list_visible, magic, pages, of, (page, slot), rows)
 }
 
 /// The same of the cancelled rows: those that `list_visible` passes over.
-pub fn list_cancelled(magic: u64, pages: &[u8], page: u64, slot: u16, rows: &mut [u64]) -> Listing {
-    list(c::lq_list_cancelled, magic, pages, (page, slot), rows)
+pub fn list_cancelled(
+    magic: u64,
+    pages: &[u8],
+    owners: &[u64],
+    branch: u64,
+    page: u64,
+    slot: u16,
+    rows: &mut [u64],
+) -> Listing {
+    let of = (owners, branch);
+    list(c::lq_list_cancelled, magic, pages, of, (page, slot), rows)
 }
 
 fn list(
     call: c::List,
     magic: u64,
     pages: &[u8],
+    (owners, branch): (&[u64], u64),
     (page, slot): (u64, u16),
     rows: &mut [u64],
 ) -> Listing {
@@ -339,6 +408,9 @@ fn list(
             magic,
             from,
             pages.len(),
+            owners.as_ptr(),
+            owners.len(),
+            branch,
             page,
             slot,
             to,

@@ -62,6 +62,7 @@ refusals! {
     17 PAGE_ID PageIndex "a page has another id than its index";
     18 PAGE_CHECKSUM PageIndex "a page's checksum is not that of its body";
     19 PAGE_SLOTS PageOffset "a data page breaks a rule of slots: its item count, free start, free end or a slot is wrong";
+    21 WRONG_BRANCH LogOffset "a change whose table and page do not belong to one and the same branch";
     27 SUMMARY_AREA Nothing "the lent area is too short for the summary";
     28 SUMMARY_ENDS_EARLY SummaryOffset "a summary ends before a number that it must have";
     29 SUMMARY_SPELLING SummaryOffset "a number of a summary has more groups than the fewest, or over 64 bits";

@@ -196,6 +196,7 @@ fn general(number: u64) -> &'static str {
         refusal::PAGE_MAGIC_OR_TYPE => "if the magic is what differs, see that this is the page file, or give the right one to --magic; else put the page back from a backup or the double-write file",
         refusal::PAGE_LSN => "use the log that reaches this page's LSN; only if all up to that LSN is known to be flushed, give it to --floor",
         refusal::NO_DATA_PAGE => "see that the pages and the log belong together and that the page file was not cut short",
+        refusal::WRONG_BRANCH => "see that the file of --branches names this table and this page, and whose they are; a table that writes to another branch's pages is an error of the program that wrote the log",
         refusal::PAGE_OVERFULL => "the log puts more on this page than it can hold: see that the pages and the log belong together",
         refusal::NO_SUCH_PAGE => "ask for one of the pages that are there",
         refusal::MAP_SHORT => "lend a longer map",

@@ -76,6 +76,12 @@ pub const FLOOR: Choice = Choice::value(
     "all up to this LSN is known to be flushed; 0 where not given",
 );
 
+pub const BRANCHES: Choice = Choice::value(
+    "--branches",
+    "FILE",
+    "which table and which page belongs to which branch; one for all where not given",
+);
+
 pub const CATALOG: Choice = Choice::value(
     "--catalog",
     "FILE",

@@ -34,6 +34,7 @@ pub fn found(verdict: Verdict, read: Read) -> Option<String> {
         | refusal::PAGE_SLOTS => fault::words(read.pages?, verdict),
         refusal::PAGE_LSN => lsns(read, place),
         refusal::NO_DATA_PAGE => no_data_page(read, place),
+        refusal::WRONG_BRANCH => entry(read.log?, place),
         refusal::PAGE_OVERFULL => needed(read.pages?, read.log?, place),
         refusal::NO_SUCH_PAGE => Some(there(read.pages?)),
         refusal::SUMMARY_ENDS_EARLY..=refusal::SUMMARY_LEFT_OVER => {

@@ -15,10 +15,20 @@ pub struct Row<'a> {
 }
 
 /// A listing of the library.
-pub type List = fn(u64, &[u8], u64, u16, &mut [u64]) -> Listing;
+pub type List = fn(u64, &[u8], &[u64], u64, u64, u16, &mut [u64]) -> Listing;
 
 /// The rows of pages that are all good, in order, or those of one page.
 pub fn rows(pages: &Pages, list: List, only: Option<u64>) -> impl Iterator<Item = Row<'_>> {
+    rows_of(pages, list, (vec![0; pages.count()], 0), only)
+}
+
+/// Those of the pages that a table gives to a branch.
+pub fn rows_of(
+    pages: &Pages,
+    list: List,
+    (owners, branch): (Vec<u64>, u64),
+    only: Option<u64>,
+) -> impl Iterator<Item = Row<'_>> {
     let end = (pages.bytes.len() / PAGE_BYTES) as u64;
     let mut from = (only.unwrap_or(0), 0);
     let lists = std::iter::from_fn(move || {
@@ -26,7 +36,15 @@ pub fn rows(pages: &Pages, list: List, only: Option<u64>) -> impl Iterator<Item 
             return None;
         }
         let mut numbers = vec![0; ROW_NUMBERS * AT_ONCE];
-        let list = list(pages.magic, &pages.bytes, from.0, from.1, &mut numbers);
+        let list = list(
+            pages.magic,
+            &pages.bytes,
+            &owners,
+            branch,
+            from.0,
+            from.1,
+            &mut numbers,
+        );
         if list.number != 0 {
             return None;
         }

@@ -2,6 +2,7 @@
 
 mod advice;
 mod args;
+mod branches;
 mod catalog;
 mod changes;
 mod commands;

@@ -7,6 +7,7 @@ use library::{
 };
 
 use crate::args::Parsed;
+use crate::branches::Branches;
 use crate::changes::{changes, Change};
 use crate::failure::Failure;
 use crate::input::{Log, Pages, Read};
@@ -30,6 +31,7 @@ impl Mended {
     /// Recovers a copy of the pages, with the options that say how. The answer may be a refusal.
     pub fn of(parsed: &Parsed, pages: Pages, log: Log) -> Result<Mended, Failure> {
         let floor = parsed.chosen_number("--floor")?.unwrap_or(0);
+        let branches = Branches::of(parsed, &pages, &log)?;
         let most_records = parsed.chosen_number("--records")?;
         let mut new = memory::room(pages.bytes.len())?;
         new.extend_from_slice(&pages.bytes);
@@ -37,7 +39,14 @@ impl Mended {
         let mut table = memory::room(numbers)?;
         table.resize(numbers, 0);
         slow::at(Work::Recovering);
-        let answer = library::recover(pages.magic, floor, &mut new, &log.bytes, &mut table);
+        let answer = library::recover(
+            pages.magic,
+            floor,
+            branches.lent(),
+            &mut new,
+            &log.bytes,
+            &mut table,
+        );
         let transactions = answer.committed + answer.rolled_back + answer.unended;
         let mut records = memory::room(transactions as usize)?;
         records.extend(library::records(&table).take(transactions as usize));

@@ -3,6 +3,7 @@
 
 use std::collections::{BTreeMap, HashMap};
 
+use crate::branches::{check_branches, Branches};
 use crate::log::check_header;
 use crate::log_rules::{read_log, Change, Image, ReadLog, COMMITTED};
 use crate::page::{
@@ -26,10 +27,11 @@ pub(crate) struct Examined {
 }
 
 /// Order: 1, 2, 3; then entry by entry, 4 to 10 in turn; then page by page, 11,
-/// 17, 18, 19 and 12; then 13, earliest entry; then 14, lowest page.
+/// 17, 18, 19 and 12; then 13, earliest entry; then 21, earliest entry; then 14, lowest page.
 pub(crate) fn examine(
     magic: u64,
     floor: u64,
+    branches: Branches,
     pages: &[u8],
     log: &[u8],
     records: Option<usize>,
@@ -39,6 +41,7 @@ pub(crate) fn examine(
     let read = read_log(log, records)?;
     check_pages(magic, floor, pages, read.last_lsn)?;
     check_targets(pages, &read.changes)?;
+    check_branches(branches, &read.changes)?;
     let touched = touched_pages(pages, &read);
     check_room(pages, &touched)?;
     Ok(Examined { log: read, touched })

@@ -1,6 +1,7 @@
 //! The rules for pages, log and recovery written out one by one, plainly and
 //! slowly, so that another program can be compared with this one.
 
+mod branches;
 mod bytes;
 mod catalog;
 mod crc;
@@ -14,6 +15,7 @@ mod recovery;
 mod row;
 mod summary;
 
+pub use branches::Branches;
 pub use catalog::{table_find, table_read, table_read_older, table_write, Table};
 pub use crc::crc32c;
 pub use intake::{find_order, repeated_orders, FoundOrder, RepeatedOrders};

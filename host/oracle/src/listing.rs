@@ -1,6 +1,7 @@
 //! What is done over magic and pages alone: verifying, listing visible and
 //! cancelled rows and the map of free pages.
 
+use crate::branches::branch_of;
 use crate::page::{
     check_page_bytes, check_pages_from, item_count, page_type, tuple_in_slot, DATA, FREE,
 };
@@ -71,10 +72,17 @@ fn is_visible(tuple: &[u8]) -> bool {
     tuple[16] == 0 && xmax.iter().all(|byte| *byte == 0)
 }
 
-/// The first visible row on a page of type 1 at or after a (page, slot), in that
-/// order, with its page, slot, tuple length and the tuple's offset in the pages,
+/// The first visible row on a page of type 1 and of a branch at or after a
+/// (page, slot), in that order, with its page, slot, tuple length and the tuple's offset in the pages,
 /// or none.
-pub fn next_visible(magic: u64, pages: &[u8], page: u64, slot: u16) -> Visible {
+pub fn next_visible(
+    magic: u64,
+    pages: &[u8],
+    owners: &[u64],
+    branch: u64,
+    page: u64,
+    slot: u16,
+) -> Visible {
     if let Err(Refusal { number, place }) = check(magic, pages, 0) {
         return Visible {
             number,
@@ -83,27 +91,58 @@ pub fn next_visible(magic: u64, pages: &[u8], page: u64, slot: u16) -> Visible {
         };
     }
     visible_rows(pages)
+        .filter(|row| branch_of(owners, row.page) == Some(branch))
         .find(|row| (row.page, row.slot) >= (page, slot.into()))
         .unwrap_or_default()
 }
 
-/// Visible rows from a (page, slot) on, four numbers each: page, slot, tuple length and the tuple's offset in the pages,
+/// Visible rows of a branch from a (page, slot) on, four numbers each: page, slot, tuple length and the tuple's offset in the pages,
 /// as many as fit. Says how many, and the place of the next one, or the count of pages and 0 where there is none.
-pub fn list_visible(magic: u64, pages: &[u8], page: u64, slot: u16, rows: &mut [u64]) -> Listing {
-    list(magic, pages, page, slot, rows, is_visible)
+pub fn list_visible(
+    magic: u64,
+    pages: &[u8],
+    owners: &[u64],
+    branch: u64,
+    page: u64,
+    slot: u16,
+    rows: &mut [u64],
+) -> Listing {
+    list(
+        magic,
+        pages,
+        (owners, branch),
+        (page, slot),
+        rows,
+        is_visible,
+    )
 }
 
 /// The same of the rows that are passed over there.
-pub fn list_cancelled(magic: u64, pages: &[u8], page: u64, slot: u16, rows: &mut [u64]) -> Listing {
-    list(magic, pages, page, slot, rows, |tuple| !is_visible(tuple))
+pub fn list_cancelled(
+    magic: u64,
+    pages: &[u8],
+    owners: &[u64],
+    branch: u64,
+    page: u64,
+    slot: u16,
+    rows: &mut [u64],
+) -> Listing {
+    list(
+        magic,
+        pages,
+        (owners, branch),
+        (page, slot),
+        rows,
+        |tuple| !is_visible(tuple),
+    )
 }
 
 /// The rows whose tuples are wanted.
 fn list(
     magic: u64,
     pages: &[u8],
-    page: u64,
-    slot: u16,
+    (owners, branch): (&[u64], u64),
+    (page, slot): (u64, u16),
     rows: &mut [u64],
     is_wanted: fn(&[u8]) -> bool,
 ) -> Listing {
@@ -120,7 +159,8 @@ fn list(
     };
     let mut room = rows.chunks_exact_mut(4);
     for found in rows_of(pages, is_wanted) {
-        if (found.page, found.slot) < (page, slot.into()) {
+        let is_of_branch = branch_of(owners, found.page) == Some(branch);
+        if !is_of_branch || (found.page, found.slot) < (page, slot.into()) {
             continue;
         }
         let Some(row) = room.next() else {

@@ -1,6 +1,7 @@
 //! Recovery: the touched pages rewritten, the table of transactions filled and
 //! the counts given back, or one refusal with every buffer as it was.
 
+use crate::branches::Branches;
 use crate::bytes::{put_u16, put_u32, put_u64};
 use crate::crc::crc32c;
 use crate::examine::{examine, Touched};
@@ -36,17 +37,18 @@ pub struct Record {
     pub changes: u64,
 }
 
-/// Takes the magic, a floor LSN, pages, log and a lent table of transaction
-/// records. Untouched pages keep every byte, and the records past those of the
+/// Takes the magic, a floor LSN, the tables of branches, pages, log and a lent
+/// table of transaction records. Untouched pages keep every byte, and the records past those of the
 /// log's Begins stay.
 pub fn recover(
     magic: u64,
     floor: u64,
+    branches: Branches,
     pages: &mut [u8],
     log: &[u8],
     table: &mut [Record],
 ) -> Answer {
-    let examined = match examine(magic, floor, pages, log, Some(table.len())) {
+    let examined = match examine(magic, floor, branches, pages, log, Some(table.len())) {
         Ok(examined) => examined,
         Err(refusal) => {
             return Answer {

@@ -1,5 +1,6 @@
 //! One row read before recovery, as recovery would leave it.
 
+use crate::branches::Branches;
 use crate::bytes::u64_at;
 use crate::examine::examine;
 use crate::page::{page_at, page_type, tuple_in_slot, DATA, ROW_HEADER_BYTES};
@@ -48,8 +49,16 @@ fn pad_bytes(pad: &[u8]) -> u64 {
 /// Same inputs as recovery but no table, so no 10. It gives the row header as
 /// recovery would leave it, and the payload as a part of the lent log or of the
 /// lent pages. An empty slot, a page not of type 1 or a refusal gives unfilled.
-pub fn read_row(magic: u64, floor: u64, pages: &[u8], log: &[u8], page: u64, slot: u16) -> Row {
-    match find_row(magic, floor, pages, log, page, slot) {
+pub fn read_row(
+    magic: u64,
+    floor: u64,
+    branches: Branches,
+    pages: &[u8],
+    log: &[u8],
+    page: u64,
+    slot: u16,
+) -> Row {
+    match find_row(magic, floor, branches, pages, log, page, slot) {
         Ok(row) => row,
         Err(refusal) => Row {
             number: refusal.number,
@@ -62,12 +71,13 @@ pub fn read_row(magic: u64, floor: u64, pages: &[u8], log: &[u8], page: u64, slo
 fn find_row(
     magic: u64,
     floor: u64,
+    branches: Branches,
     pages: &[u8],
     log: &[u8],
     page: u64,
     slot: u16,
 ) -> Result<Row, Refusal> {
-    let examined = examine(magic, floor, pages, log, None)?;
+    let examined = examine(magic, floor, branches, pages, log, None)?;
     // 15: the row is asked for on no lent page.
     if page >= (pages.len() / PAGE_BYTES) as u64 {
         return Err(Refusal::new(15, 0));

@@ -12,7 +12,7 @@ returns c = list-refused _ _ _ _ _ _ _ (c .before .before .verify .ensures) (c .
 fill-requires : tie.Need-fill-requires
 fill-requires c κs =
     let v = c .before .before .before in
-    let a = v .before .before .before .args in
+    let a = v .before .before .before .before .args in
     listable (a .magic) (a .pages .now) (sym (ap number-of (v .verify .ensures)) ∙ c .before .if1 .left)
 
 returns-2 : tie.Need-returns-2

@@ -2,8 +2,11 @@
 
 use std::collections::HashSet;
 
-use generate::{live_tuple, log_header, DataPage, Entry, Rng, Slots, BEGIN, COMMIT, ROLLBACK};
-use library::{LOG_LIMIT_BYTES, PAGE_BYTES, PAGE_LIMIT};
+use generate::{
+    live_tuple, log_header, one_branch, whole_entries, DataPage, Entry, Rng, Slots, Tables,
+};
+use generate::{BEGIN, COMMIT, ROLLBACK};
+use library::{LOG_HEAD_BYTES, LOG_LIMIT_BYTES, PAGE_BYTES, PAGE_LIMIT};
 
 pub const MAGIC: u64 = u64::from_le_bytes(*b"LUMBRA01");
 
@@ -111,6 +114,7 @@ pub struct Input {
     pub pages: Vec<u8>,
     pub log: Vec<u8>,
     pub records: usize,
+    pub branches: Tables,
 }
 
 impl Workload {
@@ -119,9 +123,28 @@ impl Workload {
         (self.build)(&mut writer);
         Input {
             pages: area(size.pages()),
+            branches: one_branch(&writer.log, size.pages()),
             log: writer.log,
             records: writer.begins,
         }
+    }
+}
+
+impl Input {
+    /// The same with so many tables in its log, each of the pages with its remainder, listed in no order.
+    pub fn with_tables(mut self, count: u64) -> Input {
+        let entries = whole_entries(&self.log);
+        self.log.truncate(LOG_HEAD_BYTES);
+        for mut entry in entries {
+            if entry.is_change() {
+                entry.table = (entry.target().0 % count) as u32;
+            }
+            self.log.extend(entry.encode());
+        }
+        let mut ids: Vec<u64> = (0..count).collect();
+        Rng::new(count).shuffle(&mut ids);
+        self.branches.tables = ids.into_iter().flat_map(|id| [id, 1]).collect();
+        self
     }
 }
 

@@ -37,7 +37,7 @@ static void look(const char *function, size_t numbers, size_t out_len) {
 
 static uint8_t pages[1 << 20], kept[sizeof pages], log_bytes[1 << 16], map[64], list[1 << 16];
 static uint8_t area[LQ_TABLE_LIMIT_BYTES], mark[LQ_MARK_BYTES];
-static uint64_t table[64], rows[64];
+static uint64_t table[64], rows[64], owners[LQ_PAGE_LIMIT], branches[256];
 
 static size_t read_all(const char *name, uint8_t *into, size_t room) {
     FILE *file = fopen(name, "rb");
@@ -61,12 +61,12 @@ int main(int count, char **words) {
     must(whole[LQ_VERIFY_NUMBER] == LQ_DONE, "lq_verify", "no pages are all good", MOST);
     CALL(lq_verify_from, LQ_VERIFY_NUMBERS, 1, NULL, 0, 0)
     must(whole[LQ_VERIFY_NUMBER] == LQ_DONE, "lq_verify_from", "no pages are all good", MOST);
-    CALL(lq_recover, LQ_RECOVER_NUMBERS, 1, 0, NULL, 0, NULL, 0, NULL, 0)
+    CALL(lq_recover, LQ_RECOVER_NUMBERS, 1, 0, NULL, 0, NULL, 0, NULL, 0, NULL, 0, NULL, 0)
     must(whole[LQ_RECOVER_NUMBER] == LQ_LOG_HEADER, "lq_recover", "no log is no header", MOST);
-    CALL(lq_read_row, LQ_READ_ROW_NUMBERS, 1, 0, NULL, 0, NULL, 0, 0, 0)
-    CALL(lq_next_visible, LQ_NEXT_VISIBLE_NUMBERS, 1, NULL, 0, 0, 0)
-    CALL(lq_list_visible, LQ_LIST_VISIBLE_NUMBERS, 1, NULL, 0, 0, 0, NULL, 0)
-    CALL(lq_list_cancelled, LQ_LIST_VISIBLE_NUMBERS, 1, NULL, 0, 0, 0, NULL, 0)
+    CALL(lq_read_row, LQ_READ_ROW_NUMBERS, 1, 0, NULL, 0, NULL, 0, NULL, 0, NULL, 0, 0, 0)
+    CALL(lq_next_visible, LQ_NEXT_VISIBLE_NUMBERS, 1, NULL, 0, NULL, 0, 0, 0, 0)
+    CALL(lq_list_visible, LQ_LIST_VISIBLE_NUMBERS, 1, NULL, 0, NULL, 0, 0, 0, 0, NULL, 0)
+    CALL(lq_list_cancelled, LQ_LIST_VISIBLE_NUMBERS, 1, NULL, 0, NULL, 0, 0, 0, 0, NULL, 0)
     CALL(lq_free_map, LQ_FREE_MAP_NUMBERS, 1, NULL, 0, NULL, 0)
     must(whole[LQ_FREE_MAP_NUMBER] == LQ_DONE, "lq_free_map", "no pages need no map", MOST);
     CALL(lq_summary_write, LQ_SUMMARY_WRITE_NUMBERS, 1, NULL, 0, 300, NULL, 0)
@@ -100,6 +100,12 @@ int main(int count, char **words) {
     uint64_t first_end = whole[LQ_LOG_STEP_NEXT];
     CALL(lq_log_backward, LQ_LOG_STEP_NUMBERS, log_bytes, log_len, first_end)
     must(whole[LQ_LOG_STEP_OFFSET] == 32, "lq_log_backward", "the first entry is not found again", MOST);
+    size_t branches_len = 0;
+    for (uint64_t place = 32; branches_len < 256; place = out[LQ_LOG_STEP_NEXT], branches_len += 2) {
+        lq_log_forward(log_bytes, log_len, place, out, LQ_LOG_STEP_NUMBERS);
+        if (out[LQ_LOG_STEP_KIND] != LQ_STEP_ENTRY) break;
+        branches[branches_len] = out[LQ_LOG_STEP_TABLE];
+    }
     CALL(lq_verify, LQ_VERIFY_NUMBERS, magic, kept, pages_len)
     must(whole[LQ_VERIFY_NUMBER] == LQ_DONE, "lq_verify", "the pages are good", MOST);
     kept[LQ_PAGE_BYTES + 100] ^= 1;
@@ -108,18 +114,18 @@ int main(int count, char **words) {
     CALL(lq_verify_from, LQ_VERIFY_NUMBERS, magic, kept, pages_len, 2)
     must(whole[LQ_VERIFY_NUMBER] == LQ_DONE, "lq_verify_from", "the pages behind it are good", MOST);
     kept[LQ_PAGE_BYTES + 100] ^= 1;
-    CALL(lq_read_row, LQ_READ_ROW_NUMBERS, magic, 0, kept, pages_len, log_bytes, log_len, 1, 0)
+    CALL(lq_read_row, LQ_READ_ROW_NUMBERS, magic, 0, branches, branches_len, owners, LQ_PAGE_LIMIT, kept, pages_len, log_bytes, log_len, 1, 0)
     must(whole[LQ_READ_ROW_FILLED] == 1, "lq_read_row", "page 1 has a row in slot 0", MOST);
-    CALL(lq_next_visible, LQ_NEXT_VISIBLE_NUMBERS, magic, kept, pages_len, 0, 0)
+    CALL(lq_next_visible, LQ_NEXT_VISIBLE_NUMBERS, magic, kept, pages_len, owners, LQ_PAGE_LIMIT, 0, 0, 0)
     must(whole[LQ_NEXT_VISIBLE_FOUND] == 1, "lq_next_visible", "there are rows", MOST);
-    CALL(lq_list_visible, LQ_LIST_VISIBLE_NUMBERS, magic, kept, pages_len, 0, 0, rows, sizeof rows / sizeof *rows)
+    CALL(lq_list_visible, LQ_LIST_VISIBLE_NUMBERS, magic, kept, pages_len, owners, LQ_PAGE_LIMIT, 0, 0, 0, rows, sizeof rows / sizeof *rows)
     must(whole[LQ_LIST_VISIBLE_COUNT] > 1, "lq_list_visible", "there are rows", MOST);
-    lq_next_visible(magic, kept, pages_len, 0, 0, out, LQ_NEXT_VISIBLE_NUMBERS);
+    lq_next_visible(magic, kept, pages_len, owners, LQ_PAGE_LIMIT, 0, 0, 0, out, LQ_NEXT_VISIBLE_NUMBERS);
     for (int i = 0; i < LQ_ROW_NUMBERS; i++)
         must(rows[i] == out[LQ_NEXT_VISIBLE_PAGE + i], "lq_list_visible", "another first row than lq_next_visible's", MOST);
-    CALL(lq_list_visible, LQ_LIST_VISIBLE_NUMBERS, magic, kept, pages_len, 0, 0, NULL, 0)
+    CALL(lq_list_visible, LQ_LIST_VISIBLE_NUMBERS, magic, kept, pages_len, owners, LQ_PAGE_LIMIT, 0, 0, 0, NULL, 0)
     must(whole[LQ_LIST_VISIBLE_PAGE] == rows[LQ_ROW_PAGE], "lq_list_visible", "goes on at the first row", MOST);
-    CALL(lq_list_cancelled, LQ_LIST_VISIBLE_NUMBERS, magic, kept, pages_len, 0, 0, rows, sizeof rows / sizeof *rows)
+    CALL(lq_list_cancelled, LQ_LIST_VISIBLE_NUMBERS, magic, kept, pages_len, owners, LQ_PAGE_LIMIT, 0, 0, 0, rows, sizeof rows / sizeof *rows)
     must(whole[LQ_LIST_VISIBLE_COUNT] == 0, "lq_list_cancelled", "no row is cancelled", MOST);
     CALL(lq_free_map, LQ_FREE_MAP_NUMBERS, magic, kept, pages_len, map, sizeof map)
     must(whole[LQ_FREE_MAP_FREE] == 1, "lq_free_map", "one page is free", MOST);
@@ -138,13 +144,13 @@ int main(int count, char **words) {
         must(whole[LQ_SUMMARY_STEP_PAGE + i] == rows[LQ_ROW_PAGE + i], "lq_summary_step", "another first row", MOST);
         must(out[LQ_SUMMARY_ROW_PAGE + i] == rows[LQ_ROW_PAGE + i], "lq_summary_row", "another first row", MOST);
     }
-    CALL(lq_recover, LQ_RECOVER_NUMBERS, magic, 0, (uint8_t *)memcpy(pages, kept, sizeof kept), pages_len, log_bytes,
+    CALL(lq_recover, LQ_RECOVER_NUMBERS, magic, 0, branches, branches_len, owners, LQ_PAGE_LIMIT, (uint8_t *)memcpy(pages, kept, sizeof kept), pages_len, log_bytes,
          log_len, table, sizeof table / sizeof *table)
     must(whole[LQ_RECOVER_COMMITTED] == 2, "lq_recover", "two transactions committed", MOST);
     must(table[LQ_RECORD_OUTCOME] == LQ_COMMITTED, "lq_recover", "the first transaction committed", MOST);
-    CALL(lq_list_cancelled, LQ_LIST_VISIBLE_NUMBERS, magic, pages, pages_len, 0, 0, rows, sizeof rows / sizeof *rows)
+    CALL(lq_list_cancelled, LQ_LIST_VISIBLE_NUMBERS, magic, pages, pages_len, owners, LQ_PAGE_LIMIT, 0, 0, 0, rows, sizeof rows / sizeof *rows)
     must(whole[LQ_LIST_VISIBLE_COUNT] == 1 && rows[LQ_ROW_PAGE] == 1 && rows[LQ_ROW_SLOT] == 2, "lq_list_cancelled", "one row was deleted", MOST);
-    CALL(lq_recover, LQ_RECOVER_NUMBERS, magic, 0, (uint8_t *)memcpy(pages, kept, sizeof kept), pages_len, log_bytes,
+    CALL(lq_recover, LQ_RECOVER_NUMBERS, magic, 0, branches, branches_len, owners, LQ_PAGE_LIMIT, (uint8_t *)memcpy(pages, kept, sizeof kept), pages_len, log_bytes,
          log_len, NULL, 0)
     must(whole[LQ_RECOVER_NUMBER] == LQ_NO_RECORD, "lq_recover", "no table has no record left", MOST);
 

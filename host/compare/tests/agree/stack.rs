@@ -33,13 +33,18 @@ fn call_everything() {
     assert_eq!(library::log_backward(&log, log.len() as u64).entry_type, 2);
     assert_eq!(library::verify(MAGIC, &pages).number, 0);
     assert_eq!(library::verify_from(MAGIC, &pages, 299).number, 0);
-    assert_eq!(library::next_visible(MAGIC, &pages, 299, 80).found, 0);
+    let one = generate::one_branch(&log, 300);
+    let owners = &one.pages;
     assert_eq!(
-        library::list_visible(MAGIC, &pages, 299, 80, &mut [0; 4]).count,
+        library::next_visible(MAGIC, &pages, owners, 1, 299, 80).found,
         0
     );
     assert_eq!(
-        library::list_cancelled(MAGIC, &pages, 299, 80, &mut [0; 4]).count,
+        library::list_visible(MAGIC, &pages, owners, 1, 299, 80, &mut [0; 4]).count,
+        0
+    );
+    assert_eq!(
+        library::list_cancelled(MAGIC, &pages, owners, 1, 299, 80, &mut [0; 4]).count,
         0
     );
     assert_eq!(library::free_map(MAGIC, &pages, &mut [0; 38]).free, 0);
@@ -68,9 +73,13 @@ fn call_everything() {
     assert_eq!(read.count, 300 * 80);
     assert_eq!(library::summary_step(&summary, read.first).length, 27);
     assert_eq!(library::summary_row(&summary, 300 * 80 - 1).page, 299);
-    let row = library::read_row(MAGIC, 0, &pages, &log, 299, 900);
+    let branches = library::Branches {
+        tables: &one.tables,
+        pages: owners,
+    };
+    let row = library::read_row(MAGIC, 0, branches, &pages, &log, 299, 900);
     assert_eq!(row.payload(&pages, &log), b"late");
-    let answer = library::recover(MAGIC, 0, &mut pages, &log, &mut table);
+    let answer = library::recover(MAGIC, 0, branches, &mut pages, &log, &mut table);
     assert_eq!((answer.number, answer.pages_rewritten), (0, 300));
 }
 

@@ -32,7 +32,14 @@ pub struct Outcome {
 pub fn run_on(case: &Case, floor: u64, pages: &[u8], log: &[u8]) -> Outcome {
     let mut pages = pages.to_vec();
     let mut table = vec![MARK; case.records];
-    let answer = recover(case.magic, floor, &mut pages, log, &mut table);
+    let answer = recover(
+        case.magic,
+        floor,
+        case.branches.lent(),
+        &mut pages,
+        log,
+        &mut table,
+    );
     Outcome {
         answer,
         pages,

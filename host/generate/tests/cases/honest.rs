@@ -150,7 +150,9 @@ fn every_cut_of_some_histories() {
             let mut pages = moments.pages.clone();
             let mut table = vec![MARK; history.begins()];
             let floor = history.floor;
-            let answer = oracle::recover(history.magic, floor, &mut pages, log, &mut table);
+            let one = generate::one_branch(&history.log, pages.len() / oracle::PAGE_BYTES);
+            let (magic, branches) = (history.magic, one.lent());
+            let answer = oracle::recover(magic, floor, branches, &mut pages, log, &mut table);
             let tail = history.offsets.iter().rev().find(|&&at| at <= cut).unwrap();
             cuts += 1;
             if answer.number != 0 {

@@ -14,6 +14,7 @@ fn answered(case: &Case, number: u64) -> Aim {
             let row = read_row(
                 case.magic,
                 case.floor,
+                case.branches.lent(),
                 &case.pages,
                 &case.log,
                 case.page,
@@ -104,7 +105,14 @@ fn calls_over_pages_alone_agree() {
                 (answer.number, answer.place)
             );
         }
-        let visible = next_visible(case.magic, &case.pages, case.page, case.slot);
+        let visible = next_visible(
+            case.magic,
+            &case.pages,
+            &case.branches.pages,
+            case.branch,
+            case.page,
+            case.slot,
+        );
         assert_eq!(
             (visible.number, visible.place),
             (verdict.number, verdict.place)

@@ -6,10 +6,11 @@ use oracle::crc32c;
 /// A checksum over all that a case is made of.
 fn fingerprint(case: &Case) -> u32 {
     let numbers = format!(
-        "{} {} {} {} {} {} {} {} {:?} {:?} {:?}",
+        "{} {} {} {} {} {} {} {} {} {:?} {:?} {:?} {:?}",
         case.kind,
         case.magic,
         case.floor,
+        case.branch,
         case.records,
         case.page,
         case.slot,
@@ -18,6 +19,7 @@ fn fingerprint(case: &Case) -> u32 {
         case.aim,
         case.earlier,
         case.night,
+        case.branches,
     );
     let mut bytes = numbers.into_bytes();
     bytes.extend(&case.pages);
@@ -51,5 +53,5 @@ fn the_first_cases_stay_the_same() {
     let all: Vec<u8> = (0..300)
         .flat_map(|seed| fingerprint(&case(seed)).to_le_bytes())
         .collect();
-    assert_eq!(crc32c(&all), 436_205_770);
+    assert_eq!(crc32c(&all), 1_526_981_639);
 }

@@ -9,6 +9,7 @@ use library::{FoundOrder, LOG_HEAD_BYTES, PAGE_BYTES, PAGE_LIMIT, RECORD_NUMBERS
 
 use super::recover;
 use crate::args::{Choice, Command, Parsed, JSON};
+use crate::branches::Branches;
 use crate::failure::Failure;
 use crate::files;
 use crate::input::head_fields;
@@ -153,7 +154,9 @@ fn recover_files(
 /// What a slot holds on pages as they stand.
 fn found(magic: u64, pages: &[u8], header: &[u8], order: &Order) -> Found {
     let (page, slot) = order.place;
-    let row = library::read_row(magic, u64::MAX, pages, header, page, slot);
+    let branches = Branches::one(pages.len() / PAGE_BYTES, header);
+    let lent = branches.lent();
+    let row = library::read_row(magic, u64::MAX, lent, pages, header, page, slot);
     let text = String::from_utf8_lossy(row.payload(pages, header)).into_owned();
     match (row.filled, row.deleted) {
         (0, _) => Found::Nothing,
@@ -186,7 +189,9 @@ fn press_again() -> Vec<Pressed> {
     let own = presses();
     let mut after = own.pages.clone();
     let mut table = [0; 2 * RECORD_NUMBERS];
-    library::recover(own.magic, 0, &mut after, &own.log, &mut table);
+    let branches = Branches::one(own.pages.len() / PAGE_BYTES, &own.log);
+    let lent = branches.lent();
+    library::recover(own.magic, 0, lent, &mut after, &own.log, &mut table);
     let look = |press| {
         let Press { mark, .. } = press;
         Pressed {

@@ -3,7 +3,7 @@
 use std::path::{Path, PathBuf};
 
 use crate::advice::unless_refused;
-use crate::args::{Choice, Command, Parsed, FLOOR, JSON, LOG_UNTIL, MAGIC, QUIET};
+use crate::args::{Choice, Command, Parsed, BRANCHES, FLOOR, JSON, LOG_UNTIL, MAGIC, QUIET};
 use crate::changes::Change;
 use crate::failure::Failure;
 use crate::files::{self, is_standard, STANDARD};
@@ -26,6 +26,7 @@ pub const COMMAND: Command = Command {
         MAGIC,
         FLOOR,
         LOG_UNTIL,
+        BRANCHES,
         Choice::value("--records", "N", "refuse a log of more transactions than this"),
         Choice::flag("--transactions", "list what became of each transaction"),
         Choice::flag("--changes", "list every slot that recovery changes, before and after; with --dry-run, would change"),

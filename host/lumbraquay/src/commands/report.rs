@@ -1,7 +1,7 @@
 //! `report`: one page of HTML about a recovery, for people who would rather look than read.
 
 use crate::advice::unless_refused;
-use crate::args::{Choice, Command, Parsed, FLOOR, JSON, LOG_UNTIL, MAGIC, QUIET};
+use crate::args::{Choice, Command, Parsed, BRANCHES, FLOOR, JSON, LOG_UNTIL, MAGIC, QUIET};
 use crate::failure::Failure;
 use crate::files::{self, is_standard};
 use crate::input::{head_fields, Log, Pages};
@@ -20,6 +20,7 @@ pub const COMMAND: Command = Command {
         MAGIC,
         FLOOR,
         LOG_UNTIL,
+        BRANCHES,
         QUIET,
         JSON,
     ],

@@ -3,7 +3,8 @@
 use library::{Row, FROM_LOG};
 
 use crate::advice::unless_refused;
-use crate::args::{Command, Parsed, FLOOR, JSON, LOG_UNTIL, MAGIC};
+use crate::args::{Command, Parsed, BRANCHES, FLOOR, JSON, LOG_UNTIL, MAGIC};
+use crate::branches::Branches;
 use crate::failure::Failure;
 use crate::input::{head_fields, Log, Pages, Read};
 use crate::json::Json;
@@ -20,7 +21,7 @@ pub const COMMAND: Command = Command {
         ("PAGE", "the number of the row's page"),
         ("SLOT", "the number of its slot"),
     ],
-    options: &[MAGIC, FLOOR, LOG_UNTIL, JSON],
+    options: &[MAGIC, FLOOR, LOG_UNTIL, BRANCHES, JSON],
     more: "",
     run,
 };
@@ -32,7 +33,16 @@ fn run(parsed: &Parsed, output: &mut Output) -> Result<(), Failure> {
     let pages = Pages::read(parsed)?;
     let log = Log::read(parsed, 1)?;
     let (lent, lent_log) = (&pages.bytes, &log.bytes);
-    let row = library::read_row(pages.magic, floor, lent, lent_log, page, slot as u16);
+    let branches = Branches::of(parsed, &pages, &log)?;
+    let row = library::read_row(
+        pages.magic,
+        floor,
+        branches.lent(),
+        lent,
+        lent_log,
+        page,
+        slot as u16,
+    );
     unless_refused(
         parsed,
         output,

@@ -1,11 +1,12 @@
 //! `rows`: every visible row, or every cancelled one, as the library lists them.
 
 use crate::advice::unless_refused;
-use crate::args::{Choice, Command, Parsed, JSON, MAGIC};
+use crate::args::{Choice, Command, Parsed, BRANCHES, JSON, MAGIC};
+use crate::branches::Branches;
 use crate::failure::Failure;
 use crate::input::{head_fields, Pages, Read};
 use crate::json::Json;
-use crate::listing::{rows, List, Row};
+use crate::listing::{rows_of, List, Row};
 use crate::output::Output;
 use crate::show;
 
@@ -16,6 +17,8 @@ pub const COMMAND: Command = Command {
     options: &[
         Choice::value("--page", "N", "only those of this page"),
         Choice::value("--limit", "N", "list no more rows than this"),
+        BRANCHES,
+        Choice::value("--branch", "N", "only those on pages of this branch, by --branches"),
         Choice::flag(
             "--cancelled",
             "list the cancelled rows, which are passed over, instead of the visible ones",
@@ -39,13 +42,14 @@ fn run(parsed: &Parsed, output: &mut Output) -> Result<(), Failure> {
     unless_refused(parsed, output, verdict, Read::pages(&pages))?;
     super::must_have_page(parsed, output, &pages, only)?;
 
-    let cancelled = rows(&pages, library::list_cancelled, only).count() as u64;
+    let of = branch(parsed, &pages)?;
+    let cancelled = rows_of(&pages, library::list_cancelled, of.clone(), only).count() as u64;
     let of_cancelled = parsed.flag("--cancelled");
     let (shown, list): (_, List) = match of_cancelled {
         true => ("cancelled", library::list_cancelled),
         false => ("visible", library::list_visible),
     };
-    let mut rows = rows(&pages, list, only);
+    let mut rows = rows_of(&pages, list, of, only);
     if parsed.flag("--json") {
         let mut fields = head_fields(parsed, "done", verdict);
         fields.extend(pages.fields());
@@ -101,6 +105,17 @@ fn run(parsed: &Parsed, output: &mut Output) -> Result<(), Failure> {
         _ => "; --cancelled lists them",
     };
     output.line(format_args!("{passed} passed over as cancelled{more}"))
+}
+
+/// The branches of the pages, and the one that is asked for; without both one that has all pages.
+fn branch(parsed: &Parsed, pages: &Pages) -> Result<(Vec<u64>, u64), Failure> {
+    let file = parsed.chosen_path(BRANCHES.name);
+    match (file, parsed.chosen_number("--branch")?) {
+        (None, None) => Ok((vec![0; pages.count()], 0)),
+        (Some(file), Some(branch)) => Ok((Branches::read(file)?.pages, branch)),
+        (None, Some(_)) => Err(parsed.wrong("--branch goes with --branches".to_string())),
+        (Some(_), None) => Err(parsed.wrong("--branches goes with --branch".to_string())),
+    }
 }
 
 fn row_fields(row: &Row) -> Json {

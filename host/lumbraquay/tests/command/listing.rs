@@ -1,6 +1,6 @@
 //! `verify`, `rows`, `row` and `freemap`: what they print is what the library and the second program say.
 
-use generate::Case;
+use generate::{one_branch, Case};
 use library::PAGE_BYTES;
 
 use crate::json::Value;
@@ -50,7 +50,14 @@ fn rows_are_the_librarys() {
         assert_eq!(done.text("shown"), "visible");
         for row in done.list("rows") {
             assert_eq!((row.number("xmax"), row.flag("deleted")), (0, false));
-            let found = library::next_visible(case.magic, &case.pages, from.0, from.1);
+            let found = library::next_visible(
+                case.magic,
+                &case.pages,
+                &vec![0; case.pages.len() / PAGE_BYTES],
+                0,
+                from.0,
+                from.1,
+            );
             let told = ["page", "slot", "length", "offset"].map(|name| row.number(name));
             assert_eq!(
                 (found.found, told),
@@ -62,7 +69,14 @@ fn rows_are_the_librarys() {
             from = (found.page, found.slot as u16 + 1);
             listed += 1;
         }
-        let after = library::next_visible(case.magic, &case.pages, from.0, from.1);
+        let after = library::next_visible(
+            case.magic,
+            &case.pages,
+            &vec![0; case.pages.len() / PAGE_BYTES],
+            0,
+            from.0,
+            from.1,
+        );
         assert_eq!(after.found, 0, "seed {}", case.seed);
     }
     assert!(listed > 200, "{listed}");
@@ -76,7 +90,15 @@ fn cancelled_rows_are_the_second_programs() {
     for case in good_cases(0..150) {
         sandbox.write("pages", &case.pages);
         let mut numbers = vec![0; 4 * 40 * 582];
-        let expected = oracle::list_cancelled(case.magic, &case.pages, 0, 0, &mut numbers);
+        let expected = oracle::list_cancelled(
+            case.magic,
+            &case.pages,
+            &vec![0; case.pages.len() / PAGE_BYTES],
+            0,
+            0,
+            0,
+            &mut numbers,
+        );
         let rows = numbers.chunks_exact(4).take(expected.count as usize);
         let rows: Vec<[u64; 4]> = rows.map(|row| row.try_into().unwrap()).collect();
         let say = |words: String| {
@@ -200,7 +222,9 @@ fn rows_may_be_few() {
 
 /// One row, as the second program reads it, and as it stands in its recovered pages.
 fn assert_row(sandbox: &Sandbox, case: &Case, page: u64, slot: u16) -> u64 {
-    let expected = oracle::read_row(case.magic, case.floor, &case.pages, &case.log, page, slot);
+    let one = one_branch(&case.log, case.pages.len() / PAGE_BYTES);
+    let (magic, floor, lent) = (case.magic, case.floor, one.lent());
+    let expected = oracle::read_row(magic, floor, lent, &case.pages, &case.log, page, slot);
     assert_eq!(expected.number, 0);
     let words = format!(
         "row pages log {page} {slot} --json --magic {} --floor {}",
@@ -248,7 +272,9 @@ fn row_is_as_recovery_would_leave_it() {
     let sandbox = Sandbox::new();
     let mut filled = 0;
     let accepted = |case: &Case| {
-        let row = oracle::read_row(case.magic, case.floor, &case.pages, &case.log, 0, 0);
+        let one = one_branch(&case.log, case.pages.len() / PAGE_BYTES);
+        let (magic, floor, lent) = (case.magic, case.floor, one.lent());
+        let row = oracle::read_row(magic, floor, lent, &case.pages, &case.log, 0, 0);
         row.number == 0
     };
     for case in good_cases(0..120).filter(accepted) {

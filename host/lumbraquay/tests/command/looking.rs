@@ -293,7 +293,8 @@ fn changed_slots_are_all_told() {
         sandbox.write("log", &log);
         let old = pages.clone();
         let mut table = vec![Record::default(); 5_000];
-        if oracle::recover(magic, floor, &mut pages, &log, &mut table).number != 0 {
+        let one = generate::one_branch(&log, pages.len() / oracle::PAGE_BYTES);
+        if oracle::recover(magic, floor, one.lent(), &mut pages, &log, &mut table).number != 0 {
             continue;
         }
         let (before, after) = (tuples(&old), tuples(&pages));

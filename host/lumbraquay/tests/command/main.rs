@@ -1,6 +1,7 @@
 //! The command as its users meet it: every subcommand, every exit status, the files it leaves, and the texts of the
 //! documents that show it.
 
+mod branches;
 mod demo;
 mod disk;
 mod documents;

@@ -15,7 +15,8 @@ fn by_oracle(sandbox: &Sandbox) -> (Vec<u8>, Answer) {
     let mut pages = sandbox.read("outage.pages");
     let mut table = [Record::default(); 5];
     let log = sandbox.read("outage.log");
-    let answer = oracle::recover(MAGIC, 0, &mut pages, &log, &mut table);
+    let one = generate::one_branch(&log, pages.len() / oracle::PAGE_BYTES);
+    let answer = oracle::recover(MAGIC, 0, one.lent(), &mut pages, &log, &mut table);
     assert_eq!(answer.number, 0);
     (pages, answer)
 }

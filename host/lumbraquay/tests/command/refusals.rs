@@ -20,11 +20,22 @@ fn sandbox_of(case: &Case) -> Sandbox {
     let sandbox = Sandbox::new();
     sandbox.write("pages", &case.pages);
     sandbox.write("log", &case.log);
+    let mut branches = String::new();
+    for entry in case.branches.tables.chunks_exact(2) {
+        branches += &format!("table {} {}\n", entry[0], entry[1]);
+    }
+    for (page, branch) in case.branches.pages.iter().enumerate() {
+        branches += &format!("page {page} {branch}\n");
+    }
+    sandbox.write("branches", branches.as_bytes());
     sandbox
 }
 
 fn options(case: &Case) -> String {
-    format!("--magic {:#x} --floor {}", case.magic, case.floor)
+    format!(
+        "--magic {:#x} --floor {} --branches branches",
+        case.magic, case.floor
+    )
 }
 
 /// The page and the field or slot that an offset in the pages is that of.
@@ -96,7 +107,7 @@ fn assert_told_as_json(done: Done, number: u64, place: u64) {
 /// Every known way to spoil an input, or to bring it to the edge of a rule, for `recover`.
 #[test]
 fn recover_answers_every_mutation() {
-    let mut told = [0; 20];
+    let mut told = [0; 22];
     for mutation in mutations()
         .iter()
         .filter(|it| it.seldom == 1 && !matches!(it.number, 15 | 16))
@@ -124,9 +135,9 @@ fn recover_answers_every_mutation() {
         assert!(sandbox.contents() == before, "{}", mutation.name);
         told[aim.number as usize] += 1;
     }
-    // 2 takes a file of the largest size: see inputs.rs. 15 and 16 are not recovery's.
+    // 2 takes a file of the largest size: see inputs.rs. 15 and 16 are not recovery's, and 20 is none.
     for (number, times) in told.into_iter().enumerate() {
-        let other = matches!(number, 2 | 15 | 16);
+        let other = matches!(number, 2 | 15 | 16 | 20);
         assert!(times > 0 || other, "{number} was not reached");
     }
 }
@@ -134,7 +145,7 @@ fn recover_answers_every_mutation() {
 /// Reading a row refuses alike, but for 10, and 15 is its own.
 #[test]
 fn row_refuses_too() {
-    for number in [3, 4, 5, 6, 7, 8, 9, 11, 12, 13, 14, 15, 17, 18, 19] {
+    for number in [3, 4, 5, 6, 7, 8, 9, 11, 12, 13, 14, 15, 17, 18, 19, 21] {
         let all = mutations();
         let mutation = all.iter().find(|it| it.number == number && it.seldom == 1);
         let case = case_of(mutation.expect("a mutation"));

@@ -190,7 +190,14 @@ fn tables_are_the_second_programs() {
         let mut others = 0;
         let mut from = (0, 0);
         loop {
-            let row = oracle::next_visible(own.magic, &own.pages, from.0, from.1);
+            let row = oracle::next_visible(
+                own.magic,
+                &own.pages,
+                &vec![0; own.pages.len() / oracle::PAGE_BYTES],
+                0,
+                from.0,
+                from.1,
+            );
             if row.found == 0 {
                 break;
             }

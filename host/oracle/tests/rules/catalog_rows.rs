@@ -215,7 +215,10 @@ fn the_search_refuses_as_the_listing_does() {
     assert_eq!(table_find(MAGIC, &pages, 14).found, 1);
     let refused = |pages: &[u8]| {
         let row = table_find(MAGIC, pages, 14);
-        assert_eq!(row, oracle::next_visible(MAGIC, pages, 0, 0));
+        assert_eq!(
+            row,
+            oracle::next_visible(MAGIC, pages, &OWNERS, BRANCH, 0, 0)
+        );
         (row.number, row.place)
     };
     assert_eq!(refused(&pages[1..]), (1, 0));

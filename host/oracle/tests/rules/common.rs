@@ -1,6 +1,6 @@
 //! Small builders of pages and logs for the tests, one call per page or entry.
 
-use oracle::{crc32c, recover, Answer, Record, PAGE_BYTES};
+use oracle::{crc32c, recover, Answer, Branches, Record, MAX_PAGES, PAGE_BYTES};
 
 pub const MAGIC: u64 = 0x0123_4567_89AB_CDEF;
 pub const HEADER: usize = 64;
@@ -80,7 +80,7 @@ pub fn entry(lsn: u64, transaction: u64, kind: u8, key: &[u8], old: &[u8], new: 
     bytes.extend(lsn.to_le_bytes());
     bytes.extend(transaction.to_le_bytes());
     bytes.push(kind);
-    bytes.extend(3u32.to_le_bytes());
+    bytes.extend(TABLE.to_le_bytes());
     bytes.extend((key.len() as u16).to_le_bytes());
     bytes.extend(key);
     bytes.extend((old.len() as u32).to_le_bytes());
@@ -158,9 +158,18 @@ impl Log {
     }
 }
 
+/// The table of every entry, and one branch for it and for every page.
+pub const TABLE: u32 = 3;
+pub const BRANCH: u64 = 1;
+pub static OWNERS: [u64; MAX_PAGES] = [BRANCH; MAX_PAGES];
+pub static ONE: Branches = Branches {
+    tables: &[TABLE as u64, BRANCH],
+    pages: &OWNERS,
+};
+
 /// Recovery with floor 0 and a table of 8 records.
 pub fn run(pages: &mut [u8], log: &[u8]) -> Answer {
-    recover(MAGIC, 0, pages, log, &mut [Record::default(); 8])
+    recover(MAGIC, 0, ONE, pages, log, &mut [Record::default(); 8])
 }
 
 /// The answer of a refusal: all but number and place are 0.

@@ -9,7 +9,7 @@ fn judged(log: &Log, records: usize) -> (u64, u64) {
     let mut pages = [data_page(0, 0, &[]), data_page(1, 0, &[])].concat();
     let before = pages.clone();
     let mut table = vec![Record::default(); records];
-    let answer = recover(MAGIC, 0, &mut pages, &log.bytes, &mut table);
+    let answer = recover(MAGIC, 0, ONE, &mut pages, &log.bytes, &mut table);
     if answer.number != 0 {
         assert_eq!(answer, refused(answer.number, answer.place));
         assert_eq!(pages, before);
@@ -253,7 +253,7 @@ fn records_run_out() {
     let mut many = Log::new();
     for number in 1..50 {
         many.begin(number);
-        assert_eq!(read_row(MAGIC, 0, &pages, &many.bytes, 0, 0).number, 0);
+        assert_eq!(read_row(MAGIC, 0, ONE, &pages, &many.bytes, 0, 0).number, 0);
     }
     // A number that has begun is refused by its order before its record.
     let again = log.begin(4);
@@ -281,7 +281,7 @@ fn table_keeps_later_records() {
     log.commit(9);
     let mut table = [mark; 5];
     let mut pages = data_page(0, 0, &[]);
-    let answer = recover(MAGIC, 0, &mut pages, &log.bytes, &mut table);
+    let answer = recover(MAGIC, 0, ONE, &mut pages, &log.bytes, &mut table);
     assert_eq!(answer.number, 0);
     let record = |number, first_lsn, outcome, changes| Record {
         number,

@@ -1,5 +1,6 @@
 //! The rules of the paper, one by one, with exact numbers.
 
+mod branches;
 mod catalog_rows;
 mod common;
 mod crc;

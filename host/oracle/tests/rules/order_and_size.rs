@@ -34,8 +34,8 @@ fn refusals_come_in_their_order() {
     let judge = |pages: &[u8], bytes: &[u8], records: usize| {
         let mut lent = pages.to_vec();
         let mut table = vec![Record::default(); records];
-        let answer = recover(MAGIC, 50, &mut lent, bytes, &mut table);
-        let row = read_row(MAGIC, 50, pages, bytes, 9, 0);
+        let answer = recover(MAGIC, 50, ONE, &mut lent, bytes, &mut table);
+        let row = read_row(MAGIC, 50, ONE, pages, bytes, 9, 0);
         if answer.number != 10 && answer.number != 0 {
             assert_eq!((row.number, row.place), (answer.number, answer.place));
         }
@@ -69,7 +69,7 @@ fn refusals_come_in_their_order() {
     assert_eq!(judge(&pages, &bytes[..beyond as usize], 1), (14, 1));
     let fitting = &bytes[..over as usize];
     assert_eq!(judge(&pages, fitting, 1), (0, 0));
-    assert_eq!(read_row(MAGIC, 50, &pages, fitting, 2, 0).number, 15);
+    assert_eq!(read_row(MAGIC, 50, ONE, &pages, fitting, 2, 0).number, 15);
 }
 
 #[test]
@@ -111,7 +111,14 @@ fn an_unended_change_still_counts_for_item_count_and_lsn() {
     log.begin(7);
     log.insert(7, 0, 5, &tuple(24, 1));
     log.insert(7, 1, 1, &tuple(24, 1));
-    let answer = recover(MAGIC, 77, &mut pages, &log.bytes, &mut [Record::default()]);
+    let answer = recover(
+        MAGIC,
+        77,
+        ONE,
+        &mut pages,
+        &log.bytes,
+        &mut [Record::default()],
+    );
     assert_eq!((answer.number, answer.pages_rewritten), (0, 2));
     let mut slots = vec![Some(kept)];
     slots.resize(6, None);
@@ -182,6 +189,6 @@ fn the_largest_inputs_take_a_few_seconds() {
     assert!(start.elapsed() < Duration::from_secs(10));
     assert_eq!((answer.number, answer.changes_zero), (0, changes));
     assert_eq!(answer.pages_rewritten, MAX_PAGES as u64);
-    let row = read_row(MAGIC, 0, &pages, &log.bytes, 4_095, 0);
+    let row = read_row(MAGIC, 0, ONE, &pages, &log.bytes, 4_095, 0);
     assert_eq!((row.filled, row.source), (1, 1));
 }

@@ -128,7 +128,7 @@ fn insert_with_commit_leaves_the_row() {
     for slots in [vec![], vec![None], vec![Some(row.clone())]] {
         let mut pages = data_page(0, 0, &slots);
         let mut table = [Record::default(); 2];
-        let answer = recover(MAGIC, 0, &mut pages, &log.bytes, &mut table);
+        let answer = recover(MAGIC, 0, ONE, &mut pages, &log.bytes, &mut table);
         assert_eq!(answer, expected);
         assert_eq!(pages, data_page(0, 2, &[Some(row.clone())]));
         let filled = Record {
@@ -272,9 +272,9 @@ fn page_lsn_above_floor_and_last_lsn() {
     }
     for kind in 0..=6 {
         let mut pages = blank_page(kind, 0, 9);
-        let answer = recover(MAGIC, 8, &mut pages, &log.bytes, &mut []);
+        let answer = recover(MAGIC, 8, ONE, &mut pages, &log.bytes, &mut []);
         assert_eq!(answer, refused(12, 0));
-        let answer = recover(MAGIC, 9, &mut pages, &log.bytes, &mut []);
+        let answer = recover(MAGIC, 9, ONE, &mut pages, &log.bytes, &mut []);
         assert_eq!((answer.number, answer.last_lsn), (0, 8));
     }
 }

@@ -7,7 +7,7 @@ use oracle::{
 };
 
 fn row_at(pages: &[u8], log: &[u8], page: u64, slot: u16) -> Row {
-    read_row(MAGIC, 0, pages, log, page, slot)
+    read_row(MAGIC, 0, ONE, pages, log, page, slot)
 }
 
 #[test]
@@ -82,11 +82,14 @@ fn a_page_of_another_type_has_no_rows() {
     let mut pages = data_page(0, 0, &[Some(tuple(30, 1))]);
     let log = Log::new().bytes;
     assert_eq!(row_at(&pages, &log, 0, 0).filled, 1);
-    assert_eq!(next_visible(MAGIC, &pages, 0, 0).found, 1);
+    assert_eq!(next_visible(MAGIC, &pages, &OWNERS, BRANCH, 0, 0).found, 1);
     for kind in [0, 2, 3, 4, 5, 6] {
         pages[8] = kind;
         assert_eq!(row_at(&pages, &log, 0, 0), Row::default());
-        assert_eq!(next_visible(MAGIC, &pages, 0, 0), Visible::default());
+        assert_eq!(
+            next_visible(MAGIC, &pages, &OWNERS, BRANCH, 0, 0),
+            Visible::default()
+        );
     }
 }
 
@@ -130,7 +133,7 @@ fn visible_rows_in_order() {
     ]
     .concat();
     let next = |page, slot| {
-        let visible = next_visible(MAGIC, &pages, page, slot);
+        let visible = next_visible(MAGIC, &pages, &OWNERS, BRANCH, page, slot);
         assert_eq!((visible.number, visible.place), (0, 0));
         let at = [visible.found, visible.page, visible.slot];
         (at, visible.length, visible.offset)
@@ -169,23 +172,23 @@ fn visible_where_deleted_byte_and_xmax_are_0() {
     ];
     let pages = data_page(0, 0, &slots);
     let found = |from| {
-        let row = next_visible(MAGIC, &pages, 0, from);
+        let row = next_visible(MAGIC, &pages, &OWNERS, BRANCH, 0, from);
         (row.found, row.slot)
     };
     assert_eq!((found(0), found(3), found(4)), ((1, 3), (1, 3), (0, 0)));
 
     let mut rows = [9; 4];
-    let listed = list_visible(MAGIC, &pages, 0, 0, &mut rows);
+    let listed = list_visible(MAGIC, &pages, &OWNERS, BRANCH, 0, 0, &mut rows);
     assert_eq!((listed.count, listed.page, listed.slot), (1, 1, 0));
     assert_eq!(rows, [0, 3, 24, 16_384 - 4 * 24]);
 
     // The others are cancelled; an empty slot is neither.
     let mut rows = [9; 18];
-    let listed = list_cancelled(MAGIC, &pages, 0, 0, &mut rows);
+    let listed = list_cancelled(MAGIC, &pages, &OWNERS, BRANCH, 0, 0, &mut rows);
     assert_eq!((listed.count, listed.page, listed.slot), (4, 0, 6));
     let slots: Vec<u64> = rows.chunks_exact(4).map(|row| row[1]).collect();
     assert_eq!((slots, &rows[16..]), (vec![0, 1, 2, 5], &[9, 9][..]));
-    let listed = list_cancelled(MAGIC, &pages, 0, 6, &mut rows);
+    let listed = list_cancelled(MAGIC, &pages, &OWNERS, BRANCH, 0, 6, &mut rows);
     assert_eq!((listed.count, listed.page, rows[1]), (1, 1, 6));
 
     let mut rows = [9; 4];
@@ -193,7 +196,10 @@ fn visible_where_deleted_byte_and_xmax_are_0() {
         number: 11,
         ..Listing::default()
     };
-    assert_eq!(list_cancelled(MAGIC ^ 1, &pages, 0, 0, &mut rows), refusal);
+    assert_eq!(
+        list_cancelled(MAGIC ^ 1, &pages, &OWNERS, BRANCH, 0, 0, &mut rows),
+        refusal
+    );
     assert_eq!(rows, [9; 4]);
 }
 
@@ -206,9 +212,15 @@ fn visible_rows_refuse() {
         ..Visible::default()
     };
     pages[PAGE_BYTES + 100] = 1;
-    assert_eq!(next_visible(MAGIC, &pages, 0, 0), refusal(18, 1));
+    assert_eq!(
+        next_visible(MAGIC, &pages, &OWNERS, BRANCH, 0, 0),
+        refusal(18, 1)
+    );
     pages.pop();
-    assert_eq!(next_visible(MAGIC, &pages, 0, 0), refusal(1, 0));
+    assert_eq!(
+        next_visible(MAGIC, &pages, &OWNERS, BRANCH, 0, 0),
+        refusal(1, 0)
+    );
 }
 
 #[test]

@@ -5,7 +5,7 @@ use Rattle.wal.specs.Prefix.{Met, onward}
 use Rattle.wal.proofs.Prefix.{met-first, stands-at, view-kind}
 use Rattle.rules.specs.Recover.{strayFrom}
 use Rattle.fates.proofs.Turns.{Step, step, still, arrived}
-use Rattle.checks.proofs.StrayLaws.{stray-first, stray-here, stray-next, stray-end, stray-found, stray-none}
+use Rattle.rules.proofs.Earliest.{earliest-first, earliest-here, earliest-next, earliest-end, earliest-found, earliest-passed}
 use native.Mathlib.Omega.{arith}
 use Rattle.checks.proofs.inner.first_stray.Statement.{statement}
 use Rattle.checks.proofs.inner.first_stray.Tie as tie
@@ -21,7 +21,7 @@ at-entry : (f : tie.After-standing Inv-loop μ-loop) → Step (f .before .before
 at-entry f = step (f .before .before .loop .inv .0) (f .before .before .before .before .before .pre .0 .0) (f .before .loop-test .taken) _ (f .standing .ensures)
 
 loop-holds : tie.Need-loop-holds Inv-loop μ-loop
-loop-holds c = (met-first _, stray-first _ _)
+loop-holds c = (met-first _, earliest-first _ _ _)
 
 standing-requires : tie.Need-standing-requires Inv-loop μ-loop
 standing-requires c κs = still (c .before .loop .inv .0) (c .before .before .before .before .pre .0 .0) (c .loop-test .taken) .stands
@@ -34,7 +34,7 @@ is-stray-requires c κs =
 returns : tie.Need-returns Inv-loop μ-loop
 returns c =
     let f = c .before .before in
-    stray-found _ _ (f .before .loop-test .taken) (f .before .before .loop .inv .1 ∙ stray-here _ _ _ (at-entry f .stands) (sym (c .before .is-stray .ensures) ∙ c .if1 .taken))
+    earliest-found _ _ _ (f .before .loop-test .taken) (f .before .before .loop .inv .1 ∙ earliest-here _ _ _ _ (at-entry f .stands) (sym (c .before .is-stray .ensures) ∙ c .if1 .taken))
 
 add-at : tie.Need-add-at Inv-loop μ-loop
 add-at c =
@@ -49,12 +49,12 @@ loop-again : tie.Need-loop-again Inv-loop μ-loop
 loop-again c =
     let f = c .before .before .before in
     let e = at-entry f in
-    (e .met, f .before .before .loop .inv .1 ∙ stray-next _ _ _ (e .stands) _ (ap (λ (x : ℕ). f .before .before .loop .at + x) (e .long)) (sym (c .before .before .is-stray .ensures) ∙ c .before .if1 .left))
+    (e .met, f .before .before .loop .inv .1 ∙ earliest-next _ _ _ _ (e .stands) _ (ap (λ (x : ℕ). f .before .before .loop .at + x) (e .long)) (sym (c .before .before .is-stray .ensures) ∙ c .before .if1 .left))
 
 returns-2 : tie.Need-returns-2 Inv-loop μ-loop
 returns-2 c =
     let l = c .before .loop in
-    stray-none (c .before .before .before .before .args .end) (l .inv .1 ∙ stray-end _ _ _ (arrived (l .inv .0) (c .before .before .before .before .pre .0 .0) (omega arith)))
+    earliest-passed _ (c .before .before .before .before .args .end) (l .inv .1 ∙ earliest-end _ _ _ _ (arrived (l .inv .0) (c .before .before .before .before .pre .0 .0) (omega arith)))
 
 pub first-stray-spec : {M : Type 1} → statement M
 first-stray-spec =

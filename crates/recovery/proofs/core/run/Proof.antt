@@ -7,8 +7,8 @@ use Rattle.recovery.proofs.Outcome.{Sure, sure, verdict-zero, run-refus
 use Rattle.recovery.proofs.core.run.Statement.{statement}
 use Rattle.recovery.proofs.core.run.Tie as tie
 
-sured : (c : tie.Else1) → let a = c .before .before .before .before .before .before .before .before .before .before .before .before .args in Sure (a .log .now) (a .pages .now)
-sured c = sure _ _ _ _ _ (verdict-zero (c .before .before .before .judge .ensures .0) (c .if1 .left))
+sured : (c : tie.Else1) → let a = c .before .before .before .before .before .before .before .before .before .before .before .before .before .before .args in Sure (a .log .now) (a .pages .now)
+sured c = sure _ _ _ _ _ _ (verdict-zero (c .before .before .before .judge .ensures .0) (c .if1 .left))
 
 returns : tie.Need-returns
 returns c =
@@ -23,7 +23,7 @@ mend-all-requires c κs =
     let s = sured e in
     let d = j .judge .ensures in
     let z = e .if1 .left in
-    (j .before .before .before .before .before .before .before .before .before .pre, (s .ordered, (d .0 .begin z, (d .0 .touched z, (d .1 .begin z, (d .1 .listed z, (s .touched, (s .fitting, (s .few, s .small, s .size)))))))))
+    (j .before .before .before .before .before .before .before .before .before .before .before .pre, (s .ordered, (d .0 .begin z, (d .0 .touched z, (d .1 .begin z, (d .1 .listed z, (s .touched, (s .fitting, (s .few, s .small, s .size)))))))))
 
 ending-at-requires : tie.Need-ending-at-requires
 ending-at-requires c κs =

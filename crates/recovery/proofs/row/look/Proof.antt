@@ -12,32 +12,32 @@ use Rattle.recovery.proofs.row.look.Statement.{statement}
 use Rattle.recovery.proofs.row.look.Tie as tie
 
 -- what the code knows behind the refusals of recovery, and of a page of type 1
-sured : (c : tie.Else1) → let a = c .before .before .before .before .before .before .before .before .before .before .before .args in Sure (a .log .now) (a .pages .now)
-sured c = sure _ _ _ _ _ (verdict-zero (c .before .before .before .judge .ensures .0) (c .if1 .left))
+sured : (c : tie.Else1) → let a = c .before .before .before .before .before .before .before .before .before .before .before .before .before .args in Sure (a .log .now) (a .pages .now)
+sured c = sure _ _ _ _ _ _ (verdict-zero (c .before .before .before .judge .ensures .0) (c .if1 .left))
 
-of-data : (c : tie.Else3) → let a = c .before .before .before .before .before .before .before .before .before .before .before .before .before .before .args in typeOf (pageAt (a .page) (a .pages .now)) ≡ dataType
+of-data : (c : tie.Else3) → let a = c .before .before .before .before .before .before .before .before .before .before .before .before .before .before .before .before .args in typeOf (pageAt (a .page) (a .pages .now)) ≡ dataType
 of-data c =
-    let a = c .before .before .before .before .before .before .before .before .before .before .before .before .before .before .args in
+    let a = c .before .before .before .before .before .before .before .before .before .before .before .before .before .before .before .before .args in
     type-at (a .pages .now) (a .page) ∙ c .if3 .left
 
-page-sound : (c : tie.Else3) → let a = c .before .before .before .before .before .before .before .before .before .before .before .before .before .before .args in Sound (pageAt (a .page) (a .pages .now))
+page-sound : (c : tie.Else3) → let a = c .before .before .before .before .before .before .before .before .before .before .before .before .before .before .before .before .args in Sound (pageAt (a .page) (a .pages .now))
 page-sound c =
     let o = c .before .before in
     let e = o .before in
-    let a = e .before .before .before .before .before .before .before .before .before .before .before .args in
-    sound-page _ _ _ _ _ (verdict-zero (e .before .before .before .judge .ensures .0) (e .if1 .left)) (a .page) (omega (arith, o .if2 .left)) (of-data c)
+    let a = e .before .before .before .before .before .before .before .before .before .before .before .before .before .args in
+    sound-page _ _ _ _ _ _ (verdict-zero (e .before .before .before .judge .ensures .0) (e .if1 .left)) (a .page) (omega (arith, o .if2 .left)) (of-data c)
 
 returns : tie.Need-returns
 returns c =
     let t = c .before in
     let j = t .before .before .before in
-    rw (c .nowhere .ensures) (spot-refused _ _ _ _ _ _ _ _ (t .if1 .taken) (row-refused _ _ _ _ _ _ (t .if1 .taken) (verdict-refused (j .judge .ensures .0) (t .if1 .taken))))
+    rw (c .nowhere .ensures) (spot-refused _ _ _ _ _ _ _ _ _ (t .if1 .taken) (row-refused _ _ _ _ _ _ _ (t .if1 .taken) (verdict-refused (j .judge .ensures .0) (t .if1 .taken))))
 
 returns-2 : tie.Need-returns-2
 returns-2 c =
     let e = c .before .before in
     let j = e .before .before .before in
-    rw (c .nowhere2 .ensures) (spot-refused _ _ _ _ _ _ 15 0 (λ z. absurd (omega arith)) (row-beyond _ _ _ _ _ (verdict-zero (j .judge .ensures .0) (e .if1 .left)) (c .before .if2 .taken)))
+    rw (c .nowhere2 .ensures) (spot-refused _ _ _ _ _ _ _ 15 0 (λ z. absurd (omega arith)) (row-beyond _ _ _ _ _ _ (verdict-zero (j .judge .ensures .0) (e .if1 .left)) (c .before .if2 .taken)))
 
 returns-3 : tie.Need-returns-3
 returns-3 c =
@@ -45,8 +45,8 @@ returns-3 c =
     let o = t .before .before in
     let e = o .before in
     let j = e .before .before .before in
-    let a = j .before .before .before .before .before .before .before .before .args in
-    rw (c .nowhere3 .ensures) (spot-none _ _ _ _ _ _ (row-accepted _ _ _ _ _ (verdict-zero (j .judge .ensures .0) (e .if1 .left)) (omega (arith, o .if2 .left))) (λ z. t .if3 .taken (sym (type-at (a .pages .now) (a .page)) ∙ z)))
+    let a = j .before .before .before .before .before .before .before .before .before .before .args in
+    rw (c .nowhere3 .ensures) (spot-none _ _ _ _ _ _ _ (row-accepted _ _ _ _ _ _ (verdict-zero (j .judge .ensures .0) (e .if1 .left)) (omega (arith, o .if2 .left))) (λ z. t .if3 .taken (sym (type-at (a .pages .now) (a .page)) ∙ z)))
 
 winning-requires : tie.Need-winning-requires
 winning-requires c κs =
@@ -63,7 +63,7 @@ returns-4 c =
     let o = n .before .before in
     let e = o .before in
     let j = e .before .before .before in
-    spot-found _ _ _ _ _ _ (row-accepted _ _ _ _ _ (verdict-zero (j .judge .ensures .0) (e .if1 .left)) (omega (arith, o .if2 .left))) (of-data n) (sured e .ordered) (page-sound n) (c .winning .ensures .0) (c .winning .ensures .1)
+    spot-found _ _ _ _ _ _ _ (row-accepted _ _ _ _ _ _ (verdict-zero (j .judge .ensures .0) (e .if1 .left)) (omega (arith, o .if2 .left))) (of-data n) (sured e .ordered) (page-sound n) (c .winning .ensures .0) (c .winning .ensures .1)
 
 mul-if3 : tie.Need-mul-if3
 mul-if3 c = omega (arith, sured (c .before) .few, c .if2 .left)
