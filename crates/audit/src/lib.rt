@@ -1,4 +1,6 @@
 // Judging repaired files: whether the pages after hold what recovery of the pages before would leave, and else the lowest page and slot that differs.
+#![tactic(auto)]
+
 ghost use Rattle.std.specs.Prelude.{◌≡◌};
 ghost use Rattle.rules.specs.Lent.{lent};
 ghost use Rattle.audit.specs.Judge.{judge_from, judge_of};
@@ -12,7 +14,7 @@ mod bytes;
 mod pages;
 
 // A refusal, or whether a page differs; the lowest such page and its lowest slot that does, 0 for an untouched page or a difference in the header.
-#[derive(Drop)]
+#[derive(Clone, Copy)]
 pub struct Finding {
     pub verdict: Verdict,
     pub differs: bool,
@@ -21,7 +23,7 @@ pub struct Finding {
 }
 
 // One page: whether it has no fault after, and then in what it differs.
-#[derive(Drop)]
+#[derive(Clone, Copy)]
 struct PageJudged {
     sound: bool,
     finding: Finding,

@@ -1,5 +1,7 @@
 // The judging cases: our own pages, and with other flags and another LSN; pages that were not mended; the row twice, another byte of it, another reserved byte, another byte of a page that the log does not
 // touch; each page that differs one after the other; and refusals of either side.
+#![tactic(auto)]
+
 use audit::Finding;
 use endian::{Lsn, PageNumber, put_u16, put_u32, put_u64};
 

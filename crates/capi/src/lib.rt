@@ -1,4 +1,6 @@
 // The C interface: see include/lumbraquay.h. Every function is total, and each gives its numbers by `give`.
+#![tactic(auto)]
+
 ghost use Rattle.rules.specs.Lent.{lent};
 ghost use Rattle.std.specs.Prelude.{◌≡◌, ◌/◌, length};
 ghost use Rattle.crc32c.specs.Crc.{crc32c as crc_of};

@@ -1,4 +1,6 @@
 // The catalog's table rows: reading a payload, as the newest and as an older reader do, writing one in the newest form, and the search for a table's row.
+#![tactic(auto)]
+
 ghost use Rattle.std.specs.Prelude.{◌≡◌, ◌++◌, ℕ, ◌+◌, ◌<◌, ◌≤◌, length, drop, get_or};
 ghost use Rattle.std.proofs.Math.Seq.{paste};
 ghost use Rattle.endian.specs.Numbers.{bytes_of};
@@ -28,14 +30,14 @@ const CLUSTERED: u8 = 1;
 const FIXED_BYTES: usize = 23;
 
 // A name: where its bytes stand in the payload, and how many.
-#[derive(Drop)]
+#[derive(Clone, Copy)]
 pub struct Part {
     pub at: usize,
     pub length: usize,
 }
 
 // A row as read: a refusal and zeros, or 0 and what it says; the names are parts of the payload.
-#[derive(Drop)]
+#[derive(Clone, Copy)]
 pub struct TableRow {
     pub verdict: Verdict,
     pub table: u32,

@@ -1,5 +1,7 @@
 // The catalog cases: payloads cut short at each field, the bytes after the names, layout bytes and lengths of names at their bounds, by both readers; rows written and read
 // back; and the search past unreadable, cancelled and other rows.
+#![tactic(auto)]
+
 ghost use Rattle.std.specs.Prelude.{◌≡◌, ◌≤◌, ◌<◌, length};
 
 use catalog::TableRow;

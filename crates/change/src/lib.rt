@@ -1,4 +1,6 @@
 // A change entry: the one home of what code asks of it.
+#![tactic(auto)]
+
 use endian::TxnNumber;
 
 pub mod images;
@@ -25,7 +27,7 @@ pub const SLOT_AT: usize = 35;
 pub const SHORTEST_CHANGE: usize = 77;
 
 // A tuple as it stands in the log, or else in a page: place, length, and, for one that is deleted, by which transaction.
-#[derive(Drop)]
+#[derive(Clone, Copy)]
 pub struct Image {
     pub logged: bool,
     pub place: usize,

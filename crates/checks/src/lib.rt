@@ -1,10 +1,12 @@
 // The refusals of recovery but 1 and 14, each by its own walk.
+#![tactic(auto)]
+
 use order::Walked;
 
 pub mod inner;
 
 // What the walks over a log found: its first refusal or its end, and, accepted, the place of the first change beyond the lent pages, or the end.
-#[derive(Drop)]
+#[derive(Clone, Copy)]
 pub struct Found {
     pub walked: Walked,
     pub beyond: usize,

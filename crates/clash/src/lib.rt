@@ -1,2 +1,4 @@
 // The rule on clashes.
+#![tactic(auto)]
+
 pub mod inner;

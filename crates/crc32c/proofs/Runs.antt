@@ -20,7 +20,7 @@ use Rattle.crc32c.proofs.Over.{fed-from}
 pub fed-append : (c : ℕ) (bs cs : List ℕ) → fed c (bs ++ cs) ≡ fed (fed c bs) cs
 unfolding fed
 fed-append c [] cs = refl
-fed-append c (b ∷ bs) cs = fed-append _ bs cs
+fed-append c (b ∷ bs) cs = fed-append (shifts 8 (bit_xor c b)) bs cs
 
 pub crc-append : (bs cs : List ℕ) → crc32c (bs ++ cs) ≡ finished (fed (fed start bs) cs)
 unfolding crc32c

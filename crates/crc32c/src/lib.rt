@@ -1,4 +1,6 @@
 // CRC32c of byte slices: whole, or in pieces from an earlier register.
+#![tactic(auto)]
+
 ghost use Rattle.std.specs.Prelude.{◌≡◌};
 ghost use Rattle.crc32c.specs.Crc.{fed, finished, crc32c as crc_of};
 

@@ -1,4 +1,6 @@
 // The checksum vectors of RFC 3720, section B.4, and the check value, each whole and in two pieces.
+#![tactic(auto)]
+
 use crc32c::{START, crc32c, finish, update};
 
 // Writes the name, the checksum of s, and the checksum of its two pieces around cut.

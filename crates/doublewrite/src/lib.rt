@@ -1,4 +1,6 @@
 // Double-write files: their reader, the repair of torn pages from one, and their writer.
+#![tactic(auto)]
+
 ghost use Rattle.std.specs.Prelude.{◌≡◌};
 ghost use Rattle.refusals.specs.Verdict.{verdict};
 ghost use Rattle.doublewrite.specs.File.{contents_of, id_of};
@@ -16,14 +18,14 @@ mod restore;
 mod writer;
 
 // What reading a file answers: a refusal, or the count of its slots.
-#[derive(Drop)]
+#[derive(Clone, Copy)]
 pub struct Contents {
     pub verdict: Verdict,
     pub slots: u64,
 }
 
 // What a repair answers: a refusal, or the count of pages restored.
-#[derive(Drop)]
+#[derive(Clone, Copy)]
 pub struct Restored {
     pub verdict: Verdict,
     pub count: u64,

@@ -1,4 +1,6 @@
 // The cases of double-write files: each refusal at its boundary, copies that are taken and that are not, and lists and areas of the writer.
+#![tactic(auto)]
+
 ghost use Rattle.std.specs.Prelude.{◌≤◌};
 
 use doublewrite::{Contents, Restored};

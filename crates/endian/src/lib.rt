@@ -1,19 +1,21 @@
 // Little-endian numbers in byte slices, and the three kinds of number that files hold.
+#![tactic(auto)]
+
 ghost use Rattle.std.specs.Prelude.{◌≡◌, ◌+◌, leb, length};
 ghost use Rattle.endian.specs.Numbers.{number_at, written};
 
 pub mod inner;
 
 // A log sequence number.
-#[derive(Drop)]
+#[derive(Clone, Copy)]
 pub struct Lsn(pub u64);
 
 // A transaction's number; 0 is the transaction of changes that commit by themselves.
-#[derive(Drop)]
+#[derive(Clone, Copy)]
 pub struct TxnNumber(pub u64);
 
 // A page's number: its index among the lent pages.
-#[derive(Drop)]
+#[derive(Clone, Copy)]
 pub struct PageNumber(pub u64);
 
 // Whether w bytes stand at place at of a slice of len bytes.

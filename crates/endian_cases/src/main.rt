@@ -1,4 +1,6 @@
 // Reads and writes at the start, at the end and past the end of a slice.
+#![tactic(auto)]
+
 use endian::{put_u16, put_u32, put_u64, u16_at, u32_at, u64_at};
 
 fn number(n: u64) {

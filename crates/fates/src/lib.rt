@@ -1,2 +1,4 @@
 // How transactions of an accepted log end.
+#![tactic(auto)]
+
 pub mod inner;

@@ -1,4 +1,6 @@
 // The intake check over recovered pages: the first visible order with a request mark, and the least pair of visible orders with the same one.
+#![tactic(auto)]
+
 ghost use Rattle.std.specs.Prelude.{◌≡◌};
 ghost use Rattle.intake.specs.Orders.{mark_of, order_found, orders_repeated, no_order, refused_order, none_repeated};
 
@@ -17,7 +19,7 @@ pub const ORDER_BYTES: usize = 24;
 const BLOCK_PLACES: usize = 114688;
 
 // An order: where its row stands, and what it asks for.
-#[derive(Drop)]
+#[derive(Clone, Copy)]
 pub struct Order {
     pub page: PageNumber,
     pub slot: usize,
@@ -26,7 +28,7 @@ pub struct Order {
 }
 
 // What a search for a mark answers: a refusal and zeros, or whether there is such an order, the first, and how many visible payloads are too short for one.
-#[derive(Drop)]
+#[derive(Clone, Copy)]
 pub struct FoundOrder {
     pub verdict: Verdict,
     pub found: bool,
@@ -35,7 +37,7 @@ pub struct FoundOrder {
 }
 
 // What a search for repeated marks answers: a refusal and zeros, or whether there is one, and the least pair.
-#[derive(Drop)]
+#[derive(Clone, Copy)]
 pub struct RepeatedOrders {
     pub verdict: Verdict,
     pub found: bool,

@@ -28,7 +28,7 @@ const QUANTITY_AT: usize = ROW_HEAD_BYTES + 20;
 pub const TUPLE_BYTES: usize = ROW_HEAD_BYTES + ORDER_BYTES;
 
 // A step to the next order: whether there is none, its place, and the page and slot to go on from.
-#[derive(Drop)]
+#[derive(Clone, Copy)]
 pub struct NextOrder {
     pub over: bool,
     pub place: u64,

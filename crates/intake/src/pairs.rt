@@ -15,7 +15,7 @@ use refusals::Verdict;
 const NOWHERE: u64 = 18446744073709551615;
 
 // How many places a block has, and the page and slot to go on from.
-#[derive(Drop)]
+#[derive(Clone, Copy)]
 pub struct Block {
     pub len: usize,
     pub page: usize,
@@ -23,7 +23,7 @@ pub struct Block {
 }
 
 // A pair of places, or nowhere.
-#[derive(Drop)]
+#[derive(Clone, Copy)]
 pub struct Pair {
     pub first: u64,
     pub second: u64,

@@ -1,5 +1,7 @@
 // The intake cases: payloads of 0, 15, 16, 23 and 24 bytes under a mark; the same mark on cancelled and visible rows; marks that differ in one byte; short payloads before and
 // behind the answer; no pair, the least of two pairs, and the first two of three; and refusals.
+#![tactic(auto)]
+
 ghost use Rattle.std.specs.Prelude.{◌≡◌, ◌≤◌, ◌<◌, length};
 
 use intake::Order;

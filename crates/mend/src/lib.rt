@@ -1,2 +1,4 @@
 // Mending: each touched page rewritten in its place.
+#![tactic(auto)]
+
 pub mod inner;

@@ -1,4 +1,6 @@
 // The page format: the first fault of a page, slots, visible and cancelled rows, the map of free pages, and the packed page.
+#![tactic(auto)]
+
 ghost use Rattle.std.specs.Prelude.{◌≡◌, ◌/◌, length};
 ghost use Rattle.page.specs.Fault.{verdict_from, verdict_of};
 ghost use Rattle.page.specs.Rows.{shown, rows_of, visible_rows, cancelled_rows, next_row, numbers_per_row, row_list, rows_after};
@@ -66,7 +68,7 @@ pub const FREE_TYPE: u8 = 4;
 pub const LAST_TYPE: u8 = 6;
 
 // The first fault of a page, in the order in which they are looked for.
-#[derive(Drop)]
+#[derive(Clone, Copy)]
 pub enum Fault {
     Sound,
     MagicOrType,
@@ -79,7 +81,7 @@ pub enum Fault {
 }
 
 // What a page's header holds besides what the writer works out, and its reserved bytes.
-#[derive(Drop)]
+#[derive(Clone, Copy)]
 pub struct PageHead {
     pub magic: u64,
     pub kind: u8,
@@ -88,7 +90,7 @@ pub struct PageHead {
 }
 
 // A row of a listing: its tuple's length, and where in the page area the tuple starts.
-#[derive(Drop)]
+#[derive(Clone, Copy)]
 pub struct Row {
     pub page: PageNumber,
     pub slot: usize,
@@ -97,7 +99,7 @@ pub struct Row {
 }
 
 // What a listing step answers.
-#[derive(Drop)]
+#[derive(Clone, Copy)]
 pub enum NextRow {
     Refused(Verdict),
     At(Row),
@@ -105,7 +107,7 @@ pub enum NextRow {
 }
 
 // What listing many rows answers: a refusal, or how many rows were given and where to go on.
-#[derive(Drop)]
+#[derive(Clone, Copy)]
 pub struct RowList {
     pub verdict: Verdict,
     pub count: usize,
@@ -114,7 +116,7 @@ pub struct RowList {
 }
 
 // What making a free map answers: a refusal, or the count of free pages.
-#[derive(Drop)]
+#[derive(Clone, Copy)]
 pub struct FreeMap {
     pub verdict: Verdict,
     pub free: u64,

@@ -1,4 +1,6 @@
 // The page cases: a page with each kind of fault, which of several faults and bad pages is given, visible rows one by one and many at a time, cancelled rows, and a free map.
+#![tactic(auto)]
+
 ghost use Rattle.std.specs.Prelude.{◌≡◌, length};
 
 use endian::PageNumber;

@@ -1,4 +1,6 @@
 // Recovery, and reading a row before it.
+#![tactic(auto)]
+
 ghost use Rattle.rules.specs.Lent.{lent};
 ghost use Rattle.core.specs.Prelude.{◌≡◌, ◌/◌, ◌≤◌, length};
 ghost use Rattle.wal.specs.Walk.{entries, end_of};
@@ -24,14 +26,14 @@ mod judge;
 mod row;
 
 // The first refusal, or where the log ends; accepted, the counts of the answer.
-#[derive(Drop)]
+#[derive(Clone, Copy)]
 pub struct Judged {
     pub walked: Walked,
     pub tally: Tally,
 }
 
 // A verdict, and where the tuple of a slot stands in the log or in the page area; no tuple has no bytes.
-#[derive(Drop)]
+#[derive(Clone, Copy)]
 pub struct Spot {
     pub number: u64,
     pub place: u64,

@@ -20,11 +20,11 @@ const UPDATE: u8 = 10;
 // ---- rows
 
 // The tuple of so many bytes that a transaction makes; of 0 bytes, none.
-#[derive(Drop)]
+#[derive(Clone, Copy)]
 pub struct Row(pub Txn, pub u16);
 
 // A page and a slot.
-#[derive(Drop)]
+#[derive(Clone, Copy)]
 pub struct Key(pub Page, pub u16);
 
 // Bytes that tell their places and a seed.

@@ -1,4 +1,6 @@
 // Recovery end to end: the cases of the written rules, the traps, and rows that are read before recovery.
+#![tactic(auto)]
+
 ghost use Rattle.std.specs.Prelude.{◌≤◌};
 
 use crate::build::{

@@ -1,4 +1,6 @@
 // The refusals by name: one list, the same as in specs/Refusal.antt and include/lumbraquay.h. docs/API.md says when each is given.
+#![tactic(auto)]
+
 pub const PAGE_AREA: u64 = 1;
 
 pub const LOG_TOO_LONG: u64 = 2;
@@ -74,14 +76,14 @@ pub const TABLE_ROW_NEWER: u64 = 38;
 pub const PAGE_AREAS_DIFFER: u64 = 39;
 
 // A refusal's number and place; number 0 is none.
-#[derive(Drop)]
+#[derive(Clone, Copy)]
 pub struct Verdict {
     pub number: u64,
     pub place: u64,
 }
 
 // What a writer answers: a refusal and 0, or 0 and the length written.
-#[derive(Drop)]
+#[derive(Clone, Copy)]
 pub struct Written {
     pub verdict: Verdict,
     pub length: usize,

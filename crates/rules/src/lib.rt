@@ -1,8 +1,10 @@
 // The types of recovery's answers; specs/ says what they are to hold.
+#![tactic(auto)]
+
 use endian::{Lsn, TxnNumber};
 
 // What recovery answers; refused, all but number and place are 0. The ending of the log is 0 exact, 1 torn, 2 unused.
-#[derive(Drop)]
+#[derive(Clone, Copy)]
 pub struct Answer {
     pub number: u64,
     pub place: u64,
@@ -20,7 +22,7 @@ pub struct Answer {
 }
 
 // A record of the transaction table: outcome 0 unended, 1 committed, 2 rolled back; the LSNs of its Begin, of its Commit or Rollback and of its last change, 0 where there is none.
-#[derive(Drop)]
+#[derive(Clone, Copy)]
 pub struct Record {
     pub number: TxnNumber,
     pub first: Lsn,
@@ -31,7 +33,7 @@ pub struct Record {
 }
 
 // A row as recovery would leave it: refused or unfilled, its header is zero. Its 7 pad bytes are one number.
-#[derive(Drop)]
+#[derive(Clone, Copy)]
 pub struct RowHead {
     pub number: u64,
     pub place: u64,
@@ -43,7 +45,7 @@ pub struct RowHead {
 }
 
 // A row's header, and where its payload stands: source 1 the log, 2 the pages, 0 nowhere.
-#[derive(Drop)]
+#[derive(Clone, Copy)]
 pub struct Located {
     pub head: RowHead,
     pub source: u64,

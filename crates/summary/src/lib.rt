@@ -1,4 +1,6 @@
 // The row summary: the visible rows of pages as a list kept beside the data, written and read.
+#![tactic(auto)]
+
 ghost use Rattle.std.specs.Prelude.{◌≡◌};
 ghost use Rattle.summary.specs.Summary.{numbered_row, step_of, summary_after, summary_of, summary_written};
 
@@ -11,7 +13,7 @@ mod reader;
 mod writer;
 
 // A number read at a place: what it is refused by, or 0, the number and the place after it.
-#[derive(Drop)]
+#[derive(Clone, Copy)]
 struct Number {
     refusal: u64,
     value: u64,
@@ -19,7 +21,7 @@ struct Number {
 }
 
 // A row of a file that is judged: a refusal, or its page and slot and the place after it.
-#[derive(Drop)]
+#[derive(Clone, Copy)]
 struct JudgedRow {
     verdict: Verdict,
     page: u64,
@@ -28,14 +30,14 @@ struct JudgedRow {
 }
 
 // How many rows are visible, and how many bytes they take in a summary.
-#[derive(Drop)]
+#[derive(Clone, Copy)]
 struct Measured {
     rows: u64,
     bytes: usize,
 }
 
 // A row as a summary has it.
-#[derive(Drop)]
+#[derive(Clone, Copy)]
 pub struct SummaryRow {
     pub page: PageNumber,
     pub slot: u64,
@@ -43,7 +45,7 @@ pub struct SummaryRow {
 }
 
 // What judging a file answers: a refusal, or the last LSN, the row count and where the first row stands.
-#[derive(Drop)]
+#[derive(Clone, Copy)]
 pub struct Summary {
     pub verdict: Verdict,
     pub lsn: Lsn,
@@ -52,14 +54,14 @@ pub struct Summary {
 }
 
 // A row asked for by its number.
-#[derive(Drop)]
+#[derive(Clone, Copy)]
 pub struct NumberedRow {
     pub verdict: Verdict,
     pub row: SummaryRow,
 }
 
 // The row at a place, and the place after it.
-#[derive(Drop)]
+#[derive(Clone, Copy)]
 pub struct SummaryStep {
     pub row: SummaryRow,
     pub after: usize,

@@ -1,5 +1,7 @@
 // The summary cases: the file of the paper written and read, every area that is too short, every refusal at its number, several faults in one file, spellings of 1 to 11 groups, and
 // rows by number and by steps.
+#![tactic(auto)]
+
 ghost use Rattle.std.specs.Prelude.{◌≡◌, length};
 
 use endian::Lsn;

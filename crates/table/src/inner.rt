@@ -191,7 +191,7 @@ fn enter_all(log: &[u8], from: usize, end: usize, a: &mut [u64], guesses: &mut [
 }
 
 // How many Begins were taken, and where the next one stands, or the end.
-#[derive(Drop)]
+#[derive(Clone, Copy)]
 pub struct Taken {
     pub count: usize,
     pub next: usize,

@@ -1,4 +1,6 @@
 // The transaction table of an accepted log, as plain numbers and as records.
+#![tactic(auto)]
+
 use endian::{Lsn, TxnNumber};
 
 pub mod inner;
@@ -8,7 +10,7 @@ mod rows;
 pub const STRIDE: usize = 6;
 
 // What a table of numbers says of a transaction.
-#[derive(Drop)]
+#[derive(Clone, Copy)]
 pub struct Row {
     pub number: TxnNumber,
     pub first: Lsn,

@@ -1,8 +1,10 @@
 // What recovery counts over an accepted log.
+#![tactic(auto)]
+
 pub mod inner;
 
 // Transactions by outcome, changes by the outcome of their transaction, and changes of transaction 0.
-#[derive(Drop)]
+#[derive(Clone, Copy)]
 pub struct Tally {
     pub committed: u64,
     pub rolled_back: u64,

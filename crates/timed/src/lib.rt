@@ -1,4 +1,6 @@
 // For the benchmarks alone: what a caller inside the library pays, with the tables made once.
+#![tactic(auto)]
+
 ghost use Rattle.std.specs.Prelude.{◌≡◌, ◌+◌, ◌*◌, ◌/◌, ◌≤◌, leb, length};
 ghost use Rattle.endian.specs.Pick.{pick};
 ghost use Rattle.crc32c.specs.Tables.{Tables};

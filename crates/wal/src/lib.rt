@@ -1,4 +1,6 @@
 // The write-ahead log: what stands at a place, the walk, and a reader that keeps its place.
+#![tactic(auto)]
+
 ghost use Rattle.std.specs.Prelude.{◌≡◌};
 ghost use Rattle.wal.specs.Read.{header_fault, read_at, read_before};
 ghost use Rattle.wal.specs.Walk.{end_of};
@@ -21,7 +23,7 @@ pub const SHORTEST: usize = 43;
 pub const LONGEST: usize = 32705;
 
 // An entry that stands in a log: where, and its fields; its key, old and new value are parts of the log.
-#[derive(Drop)]
+#[derive(Clone, Copy)]
 pub struct EntryView {
     pub place: usize,
     pub length: usize,
@@ -35,7 +37,7 @@ pub struct EntryView {
 }
 
 // What reading forward finds at a place.
-#[derive(Drop)]
+#[derive(Clone, Copy)]
 pub enum Reading {
     Whole(EntryView),
     End,
@@ -45,7 +47,7 @@ pub enum Reading {
 }
 
 // What reading backward finds before a place.
-#[derive(Drop)]
+#[derive(Clone, Copy)]
 pub enum Before {
     Found(EntryView),
     Nothing,

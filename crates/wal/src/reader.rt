@@ -28,14 +28,14 @@ pub struct ReadBackward<'a> {
 }
 
 // What a step forward finds, and the place after it.
-#[derive(Drop)]
+#[derive(Clone, Copy)]
 pub struct ForwardStep {
     pub found: Reading,
     pub place: usize,
 }
 
 // What a step backward finds, and the place after it.
-#[derive(Drop)]
+#[derive(Clone, Copy)]
 pub struct BackwardStep {
     pub found: Before,
     pub place: usize,

@@ -1,4 +1,6 @@
 // Lengths, tails, unused room, checksums and places of a log, and a row image that holds a whole entry.
+#![tactic(auto)]
+
 ghost use Rattle.std.specs.Prelude.{◌≤◌};
 
 use crate::trip::there_and_back;

@@ -6,7 +6,7 @@ use wal::reader::{backward, forward, open};
 use wal::{Before, Reading};
 
 // What two steps forward and one back find, and the reader's place and number after them.
-#[derive(Drop)]
+#[derive(Clone, Copy)]
 pub struct Trip {
     pub first: Reading,
     pub second: Reading,

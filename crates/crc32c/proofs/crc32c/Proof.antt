@@ -8,5 +8,5 @@ returns : tie.Need-returns
 unfolding crc32c
 returns c = c.finish.ensures ∙ ap finished c.before.update.ensures
 
-pub crc32c-spec : {M : Type 1} → statement M
-crc32c-spec = tie.close (tie.spec (λ c κs. search rules) (λ c κs. search rules) returns)
+pub crc32c_spec : {M : Type 1} → statement M
+crc32c_spec = tie.close (tie.spec (λ c κs. search rules) (λ c κs. search rules) returns)

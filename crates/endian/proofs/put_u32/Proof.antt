@@ -5,21 +5,21 @@ use Rattle.endian.proofs.Places.{written-fits, written-short}
 use Rattle.endian.proofs.put_u32.Statement.{statement}
 use Rattle.endian.proofs.put_u32.Tie as tie
 
-put-u32-requires : tie.Need-put-u32-requires
-put-u32-requires c κs = leb-true _ _ (sym c.before.before.within.ensures ∙ c.before.if1.true)
+put-u32-requires : tie.Need-put_u32-requires
+put-u32-requires c κs = leb-true _ _ (sym c.before.before.within.ensures ∙ c.before.if-within.true)
 
-returns : tie.Need-returns
+returns : tie.Need-returns-then-within
 returns c =
     let i = c.before.before.before.before in
-    let t = sym i.if1.true ∙ i.before.within.ensures in
-    (t, c.before.before.put-u32.ensures ∙ sym (written-fits 4 _ _ _ (leb-true _ _ (sym t))))
+    let t = sym i.if-within.true ∙ i.before.within.ensures in
+    (t, c.before.before.put_u32.ensures ∙ sym (written-fits 4 _ _ _ (leb-true _ _ (sym t))))
 
-returns-2 : tie.Need-returns-2
+returns-2 : tie.Need-returns
 returns-2 c =
-    let t = sym c.if1.false ∙ c.before.within.ensures in
+    let t = sym c.if-within.false ∙ c.before.within.ensures in
     (t, sym (written-short 4 _ _ _ (leb-false _ _ (sym t))))
 
-pub put-u32-spec : {M : Type 1} → statement M
-put-u32-spec =
+pub put_u32_spec : {M : Type 1} → statement M
+put_u32_spec =
     tie.close
     (tie.spec (λ c κs. search rules) put-u32-requires (λ c. search rules) returns returns-2)

@@ -19,11 +19,11 @@ behind len at w h =
       | no k ↦ lt-leb w (len - at) (omega arith) ∙ sym (lt-leb (at + w) len (omega arith))
     ]
 
-returns : tie.Need-returns
-returns c = sym (past _ _ _ c.if1.true)
+returns : tie.Need-returns-then-len-at
+returns c = sym (past _ _ _ c.if-len-at.true)
 
-returns-2 : tie.Need-returns-2
-returns-2 c = behind _ _ _ c.if1.false
+returns-2 : tie.Need-returns
+returns-2 c = behind _ _ _ c.if-len-at.false
 
-pub within-spec : {M : Type 1} → statement M
-within-spec = tie.close (tie.spec returns returns-2)
+pub within_spec : {M : Type 1} → statement M
+within_spec = tie.close (tie.spec returns returns-2)

@@ -8,7 +8,7 @@ use crate::inner::{build, build_all, number_of};
 use endian::TxnNumber;
 
 // How many places are held, and the range's end.
-#[derive(Drop)]
+#[derive(Clone, Copy)]
 pub struct Held {
     pub len: usize,
     pub hi: TxnNumber,

@@ -8,24 +8,24 @@ use Rattle.crc32c.proofs.Filled.{bit, bits}
 use Rattle.crc32c.proofs.inner.byte.Statement.{statement}
 use Rattle.crc32c.proofs.inner.byte.Tie as tie
 
-abbrev invariant-loop : tie.invariant-loop
+abbrev invariant-loop : tie.invariant-loop-i
 invariant-loop x r₀ i₀ r i = (i ≤ 8) × (shifts (8 - i) r ≡ shifts 8 x)
 
-abbrev decreases-loop : tie.decreases-loop
+abbrev decreases-loop : tie.decreases-loop-i
 decreases-loop x r₀ i₀ r i = 8 - i
 
-loop-holds : tie.Need-loop-init invariant-loop decreases-loop
+loop-holds : tie.Need-loop-i-init invariant-loop decreases-loop
 loop-holds c = (omega arith, refl)
 
-mul-r : tie.Need-overflow-mul-r invariant-loop decreases-loop
-mul-r c = omega (arith, mask_lt c.before.loop.r 1)
+mul-r : tie.Need-overflow_mul-r invariant-loop decreases-loop
+mul-r c = omega (arith, mask_lt c.before.loop-i.r 1)
 
-loop-again : tie.Need-loop-preserved invariant-loop decreases-loop
-loop-again c = (omega arith, bit c.before.loop.i c.before.loop.r _ (omega arith) c.before.loop.invariant.1)
+loop-again : tie.Need-loop-i-preserved invariant-loop decreases-loop
+loop-again c = (omega arith, bit c.before.loop-i.i c.before.loop-i.r _ (omega arith) c.before.loop-i.invariant.1)
 
 returns : tie.Need-returns invariant-loop decreases-loop
-returns c = bits c.before.loop.i c.before.loop.r _ (omega arith) c.before.loop.invariant.1
+returns c = bits c.before.loop-i.i c.before.loop-i.r _ (omega arith) c.before.loop-i.invariant.1
 
-pub byte-spec : {M : Type 1} → statement M
-byte-spec =
+pub byte_spec : {M : Type 1} → statement M
+byte_spec =
     tie.close (tie.spec invariant-loop decreases-loop loop-holds mul-r (λ c. search rules) (λ c. search rules) loop-again returns)

@@ -13,12 +13,12 @@ returns c =
     let e = c.before.before.before.before.before in
     let f = c.before.before.fill in (
       λ r l.
-          carried-moved c.back.new.0 f.new.0 r chunk_bytes c.back.ensures.0
-          ∙ ap (λ (n : ℕ). carried (drop n f.new.0) r) (sym e.requires.0)
-          ∙ chunked e.args.p.now e.args.s.now f.new.0 r e.requires.1 f.ensures.1 (omega arith) l f.ensures.0,
+          carried-moved c.back.new.p f.new.p r chunk_bytes c.back.ensures.0
+          ∙ ap (λ (n : ℕ). carried (drop n f.new.p) r) (sym e.requires.0)
+          ∙ chunked e.args.p.now e.args.s.now f.new.p r e.requires.1 f.ensures.1 (omega arith) l f.ensures.0,
       c.back.ensures.1,
     )
 
-pub chunk-spec : {M : Type 1} → statement M
-chunk-spec = tie.close
+pub chunk_spec : {M : Type 1} → statement M
+chunk_spec = tie.close
     (tie.spec (λ c κs. search rules) (λ c κs. search rules) returns)

@@ -8,25 +8,25 @@ use Rattle.crc32c.proofs.Stores.{filled_none, filled_more, room-set, byte-xor, p
 use Rattle.crc32c.proofs.inner.fill.Statement.{statement}
 use Rattle.crc32c.proofs.inner.fill.Tie as tie
 
-abbrev invariant-loop : tie.invariant-loop
+abbrev invariant-loop : tie.invariant-loop-j
 invariant-loop p₀ s j₀ p j = (j ≤ length s) × Filled 2 j p₀ s p × Room buffer_bytes p
 
-abbrev decreases-loop : tie.decreases-loop
+abbrev decreases-loop : tie.decreases-loop-j
 decreases-loop p₀ s j₀ p j = length s - j
 
-loop-holds : tie.Need-loop-init invariant-loop decreases-loop
+loop-holds : tie.Need-loop-j-init invariant-loop decreases-loop
 loop-holds c =
     (omega arith, filled_none 2 _ _, c.requires.1)
 
-loop-again : tie.Need-loop-preserved invariant-loop decreases-loop
+loop-again : tie.Need-loop-j-preserved invariant-loop decreases-loop
 unfolding pull
 loop-again c =
     let d = c.before.before.before.before.before.before.before in
-    let l = d.loop in
+    let l = d.loop-j in
     let s = d.before.args.s.now in
     let r = l.invariant.2 in
     let z : length l.p ≡ buffer_bytes = r.size in
-    let y : get_or s l.j 0 < 256 = (c.before.before.before.before.before.shared-slice-known.given l.j).fits in (
+    let y : get_or s l.j 0 < 256 = (c.before.before.before.before.before.shared_slice_known-1.given l.j).fits in (
       omega arith,
       filled_more 2 l.j _ _ _ l.p (omega arith) (omega arith) refl l.invariant.1,
       room-set (l.j + history_bytes) _ (byte-xor y (pull-lt 2 (λ i. get_or l.p i 0) l.j (λ i. r.bytes.at i))) r,
@@ -34,7 +34,7 @@ loop-again c =
 
 returns : tie.Need-returns invariant-loop decreases-loop
 returns c =
-    let l = c.before.loop in
+    let l = c.before.loop-j in
     let e : l.j ≡ length c.before.before.args.s.now = omega arith in
     (rw e at l.invariant.1, l.invariant.2)
 

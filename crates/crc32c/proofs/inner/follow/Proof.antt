@@ -16,11 +16,11 @@ returns c =
     (join s (i + 1) (i + 2) 1 2 k (k + 2) 0 _ _ (omega arith) refl (omega arith)
     (join s (i + 2) (i + 3) 1 1 k (k + 1) 0 _ _ (omega arith) refl (omega arith)
     (c.before.before.before.before.before.before.look.ensures ∙ single s (i + 3) k (omega arith))
-    (c.before.before.before.before.look2.ensures ∙ single s (i + 2) (k + 1) (omega arith)))
-    (c.before.before.look3.ensures ∙ single s (i + 1) (k + 2) (omega arith)))
-    (c.look4.ensures ∙ single s i (k + 3) (omega arith))
+    (c.before.before.before.before.look-2.ensures ∙ single s (i + 2) (k + 1) (omega arith)))
+    (c.before.before.look-3.ensures ∙ single s (i + 1) (k + 2) (omega arith)))
+    (c.look-4.ensures ∙ single s i (k + 3) (omega arith))
 
-pub follow-spec : {M : Type 1} → statement M
-follow-spec =
+pub follow_spec : {M : Type 1} → statement M
+follow_spec =
     tie.close
     (tie.spec (λ c. search rules) (λ c. search rules) (λ c κs. search rules) (λ c. search rules) (λ c. search rules) (λ c. search rules) (λ c κs. search rules) (λ c. search rules) (λ c. search rules) (λ c. search rules) (λ c κs. search rules) (λ c. search rules) (λ c. search rules) (λ c κs. search rules) returns)

@@ -12,11 +12,11 @@ returns c =
     let a = e.args in
     looked-4 a.k a.x _ _ _ _ e.ranges.x.fits
     (c.before.before.before.before.before.before.look.ensures ∙ ap (shifts (8 * (a.k + 1))) c.before.before.before.before.before.before.before.low.ensures)
-    (c.before.before.before.before.look2.ensures ∙ ap (shifts (8 * (a.k + 1 + 1))) c.before.before.before.before.before.low2.ensures)
-    (c.before.before.look3.ensures ∙ ap (shifts (8 * (a.k + 2 + 1))) c.before.before.before.low3.ensures)
-    (c.look4.ensures ∙ ap (shifts (8 * (a.k + 3 + 1))) c.before.low4.ensures)
+    (c.before.before.before.before.look-2.ensures ∙ ap (shifts (8 * (a.k + 1 + 1))) c.before.before.before.before.before.low-2.ensures)
+    (c.before.before.look-3.ensures ∙ ap (shifts (8 * (a.k + 2 + 1))) c.before.before.before.low-3.ensures)
+    (c.look-4.ensures ∙ ap (shifts (8 * (a.k + 3 + 1))) c.before.low-4.ensures)
 
-pub four-spec : {M : Type 1} → statement M
-four-spec =
+pub four_spec : {M : Type 1} → statement M
+four_spec =
     tie.close
     (tie.spec (λ c κs. search rules) (λ c κs. search rules) (λ c. search rules) (λ c κs. search rules) (λ c κs. search rules) (λ c. search rules) (λ c κs. search rules) (λ c κs. search rules) (λ c. search rules) (λ c κs. search rules) (λ c κs. search rules) returns)

@@ -52,7 +52,7 @@ returns c =
     let j : k.j ≡ last_bytes = omega arith in
     (l.invariant.2, halved _ k.p l.o k.invariant.3 e.requires.1.size l.invariant.2 (rw j at k.invariant.1) (λ m b. k.invariant.2 m (omega arith)) (λ m b. l.invariant.1 m (omega arith)))
 
-pub halve-spec : {M : Type 1} → statement M
-halve-spec =
+pub halve_spec : {M : Type 1} → statement M
+halve_spec =
     tie.close
     (tie.spec invariant-fill decreases-fill invariant-mix decreases-mix fill_holds (λ c. search rules) (λ c. search rules) (λ c. search rules) (λ c. search rules) (λ c. search rules) (λ c. search rules) (λ c. search rules) (λ c. search rules) (λ c. search rules) (λ c. search rules) (λ c. search rules) (λ c. search rules) (λ c. search rules) (λ c. search rules) fill-again (λ c. search rules) (λ c. search rules) (λ c. search rules) (λ c. search rules) (λ c. search rules) (λ c. search rules) (λ c. search rules) (λ c. search rules) (λ c. search rules) (λ c. search rules) (λ c. search rules) (λ c. search rules) (λ c. search rules) (λ c. search rules) (λ c. search rules) (λ c. search rules) mix-again returns)

@@ -12,11 +12,11 @@ returns : tie.Need-returns
 returns c =
     let e = c.before.before.before in
     let a = e.args in
-    let b : Bytes a.s.now = record { at = λ i. (c.before.before.shared-slice-known.given i).fits } in
-    c.four.ensures ∙ ap (λ (x : ℕ). shifts (8 * (a.k + 4)) (bit_xor a.c x)) c.before.u32-at.ensures
+    let b : Bytes a.s.now = record { at = λ i. (c.before.before.shared_slice_known-1.given i).fits } in
+    c.four.ensures ∙ ap (λ (x : ℕ). shifts (8 * (a.k + 4)) (bit_xor a.c x)) c.before.u32_at.ensures
     ∙ run_at a.s.now a.i 4 a.k a.c b e.requires.2
 
-pub lead-spec : {M : Type 1} → statement M
-lead-spec =
+pub lead_spec : {M : Type 1} → statement M
+lead_spec =
     tie.close
     (tie.spec (λ c κs. search rules) (λ c κs. search rules) returns)

@@ -52,7 +52,7 @@ mix-again c =
     let z : length l.o ≡ ending_bytes = r.size in (
       omega arith,
       below_more l.o _ l.j _ (omega arith) refl l.invariant.1,
-      room-set l.j _ (byte-xor (c.shared-slice-known.given l.j).fits (pull-lt 2 (λ i. get_or k.z i 0) l.j (λ i. k.invariant.3.bytes.at i))) r,
+      room-set l.j _ (byte-xor (c.shared_slice_known-1.given l.j).fits (pull-lt 2 (λ i. get_or k.z i 0) l.j (λ i. k.invariant.3.bytes.at i))) r,
     )
 
 returns : tie.Need-returns invariant-copy decreases-copy invariant-mix decreases-mix
@@ -64,7 +64,7 @@ returns c =
       l.invariant.2,
     )
 
-pub mix-spec : {M : Type 1} → statement M
-mix-spec =
+pub mix_spec : {M : Type 1} → statement M
+mix_spec =
     tie.close
     (tie.spec invariant-copy decreases-copy invariant-mix decreases-mix copy_holds (λ c. search rules) (λ c. search rules) (λ c. search rules) (λ c. search rules) (λ c. search rules) copy-again mix-holds (λ c. search rules) (λ c. search rules) (λ c. search rules) (λ c. search rules) (λ c. search rules) (λ c. search rules) (λ c. search rules) (λ c. search rules) (λ c. search rules) (λ c. search rules) (λ c. search rules) (λ c. search rules) (λ c. search rules) mix-again returns)

@@ -28,12 +28,12 @@ eights-again c =
 fours-again : tie.Need-fours-preserved invariant-eights decreases-eights invariant-fours decreases-fours
 fours-again c =
     let l = c.before.before.fours in
-    (search rules, step-4 c.before.before.before.before.before.before.args.s.now l.i l.c _ c.lead2.ensures ∙ l.invariant.1)
+    (search rules, step-4 c.before.before.before.before.before.before.args.s.now l.i l.c _ c.lead-c.ensures ∙ l.invariant.1)
 
 returns : tie.Need-returns invariant-eights decreases-eights invariant-fours decreases-fours
 returns c = c.few.ensures ∙ c.before.before.fours.invariant.1
 
-pub rest-spec : {M : Type 1} → statement M
-rest-spec =
+pub rest_spec : {M : Type 1} → statement M
+rest_spec =
     tie.close
     (tie.spec invariant-eights decreases-eights invariant-fours decreases-fours (λ c. search rules) (λ c. search rules) (λ c. search rules) (λ c κs. search rules) (λ c κs. search rules) (λ c. search rules) (λ c. search rules) eights-again (λ c. search rules) (λ c. search rules) (λ c κs. search rules) (λ c. search rules) (λ c. search rules) fours-again (λ c κs. search rules) returns)

@@ -34,13 +34,13 @@ first-again c =
           (first l.k c.byte.result (omega arith) (c.byte.ensures ∙ ap (shifts 8) l.invariant.1)) l.invariant.3,
     )
 
-cast-j : tie.Need-overflow-cast-j invariant-first decreases-first invariant-rest decreases-rest
+cast-j : tie.Need-overflow_cast-j invariant-first decreases-first invariant-rest decreases-rest
 cast-j c = omega (arith, mask_lt (get_or c.before.rest.t (c.before.rest.k - 256) 0) 8)
 
-mul-t-2 : tie.Need-overflow-mul-t-2 invariant-first decreases-first invariant-rest decreases-rest
+mul-t-2 : tie.Need-offset_bounds-t-j invariant-first decreases-first invariant-rest decreases-rest
 mul-t-2 c = omega (arith, mask_lt (get_or c.before.rest.t (c.before.rest.k - 256) 0) 8)
 
-array-read-t : tie.Need-array-read-t invariant-first decreases-first invariant-rest decreases-rest
+array-read-t : tie.Need-bounds-t-j invariant-first decreases-first invariant-rest decreases-rest
 array-read-t c = omega (arith, mask_lt (get_or c.before.rest.t (c.before.rest.k - 256) 0) 8)
 
 rest-again : tie.Need-rest-preserved invariant-first decreases-first invariant-rest decreases-rest
@@ -55,7 +55,7 @@ rest-again c =
 returns : tie.Need-returns invariant-first decreases-first invariant-rest decreases-rest
 returns c = record { at = λ k h. c.before.rest.invariant.3 k (omega arith) }
 
-pub tables-spec : {M : Type 1} → statement M
-tables-spec =
+pub tables_spec : {M : Type 1} → statement M
+tables_spec =
     tie.close
     (tie.spec invariant-first decreases-first invariant-rest decreases-rest first_holds (λ c κs. search rules) (λ c. search rules) (λ c. search rules) (λ c. search rules) (λ c. search rules) (λ c. search rules) first-again (λ c. search rules) (λ c. search rules) (λ c. search rules) (λ c. search rules) cast-j mul-t-2 array-read-t (λ c. search rules) (λ c. search rules) (λ c. search rules) (λ c. search rules) rest-again returns)

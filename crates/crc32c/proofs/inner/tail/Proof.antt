@@ -11,6 +11,6 @@ mix-requires c κs = let e = c.before.before in ((e.requires.0.1, e.requires.0.2
 returns : tie.Need-returns
 returns c = c.last.ensures ∙ cc
 
-pub tail-spec : {M : Type 1} → statement M
-tail-spec = tie.close
+pub tail_spec : {M : Type 1} → statement M
+tail_spec = tie.close
     (tie.spec mix-requires (λ c κs. search rules) (λ c κs. search rules) returns)

@@ -8,24 +8,24 @@ use Rattle.crc32c.proofs.Runs.{step-16}
 use Rattle.crc32c.proofs.inner.words.Statement.{statement}
 use Rattle.crc32c.proofs.inner.words.Tie as tie
 
-abbrev invariant-loop : tie.invariant-loop
+abbrev invariant-loop : tie.invariant-loop-i
 invariant-loop t start s c₀ i₀ c i = (i ≤ length s) × (fed c (drop i s) ≡ fed start s)
 
-abbrev decreases-loop : tie.decreases-loop
+abbrev decreases-loop : tie.decreases-loop-i
 decreases-loop t start s c₀ i₀ c i = length s - i
 
-loop-again : tie.Need-loop-preserved invariant-loop decreases-loop
+loop-again : tie.Need-loop-i-preserved invariant-loop decreases-loop
 loop-again c =
-    let l = c.before.before.before.before.before.loop in (
+    let l = c.before.before.before.before.before.loop-i in (
       search rules,
-      step-16 c.before.before.before.before.before.before.before.args.s.now l.i l.c _ _ _ _ (omega arith) c.before.before.before.follow.ensures c.before.before.follow2.ensures c.before.follow3.ensures c.lead.ensures
+      step-16 c.before.before.before.before.before.before.before.args.s.now l.i l.c _ _ _ _ (omega arith) c.before.before.before.follow.ensures c.before.before.follow-in-loop-i.ensures c.before.follow-in-loop-i-2.ensures c.lead.ensures
           ∙ l.invariant.1,
     )
 
 returns : tie.Need-returns invariant-loop decreases-loop
-returns c = c.rest.ensures ∙ c.before.before.loop.invariant.1
+returns c = c.rest.ensures ∙ c.before.before.loop-i.invariant.1
 
-pub words-spec : {M : Type 1} → statement M
-words-spec =
+pub words_spec : {M : Type 1} → statement M
+words_spec =
     tie.close
     (tie.spec invariant-loop decreases-loop (λ c. search rules) (λ c. search rules) (λ c. search rules) (λ c κs. search rules) (λ c. search rules) (λ c κs. search rules) (λ c. search rules) (λ c κs. search rules) (λ c κs. search rules) (λ c. search rules) (λ c. search rules) loop-again (λ c κs. search rules) returns)

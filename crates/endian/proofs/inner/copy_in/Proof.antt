@@ -8,32 +8,32 @@ use borrow.Author.Rules.{rules}
 use Rattle.endian.proofs.inner.copy_in.Statement.{statement}
 use Rattle.endian.proofs.inner.copy_in.Tie as tie
 
-abbrev invariant-loop : tie.invariant-loop
+abbrev invariant-loop : tie.invariant-loop-j
 invariant-loop dst₀ at src j₀ dst j = (dst ≡ paste dst₀ at src j) × (j ≤ length src) × (length dst ≡ length dst₀)
 
-abbrev decreases-loop : tie.decreases-loop
+abbrev decreases-loop : tie.decreases-loop-j
 decreases-loop dst₀ at src j₀ dst j = length src - j
 
-loop-holds : tie.Need-loop-init invariant-loop decreases-loop
+loop-holds : tie.Need-loop-j-init invariant-loop decreases-loop
 loop-holds c = (paste-zero c.args.dst.now c.args.at c.args.src.now, omega arith, refl)
 
-loop-again : tie.Need-loop-preserved invariant-loop decreases-loop
+loop-again : tie.Need-loop-j-preserved invariant-loop decreases-loop
 loop-again c =
     let l = c.before.before in
     let a = l.before.args in
-    let j = l.loop.j in (
-      rw (l.loop.invariant.0, add-one j) (paste-suc a.dst.now a.at a.src.now j 0 (omega arith) (omega arith)),
+    let j = l.loop-j.j in (
+      rw (l.loop-j.invariant.0, add-one j) (paste-suc a.dst.now a.at a.src.now j 0 (omega arith) (omega arith)),
       omega arith,
-      simp length-set l.loop.invariant.2,
+      simp length-set l.loop-j.invariant.2,
     )
 
-same_length : tie.Need-same-length invariant-loop decreases-loop
-same_length c = c.before.loop.invariant.2
+same_length : tie.Need-shape_of-dst invariant-loop decreases-loop
+same_length c = c.before.loop-j.invariant.2
 
 returns : tie.Need-returns invariant-loop decreases-loop
 returns c =
-    let e : c.before.loop.j ≡ length c.before.before.args.src.now = omega arith in
-    rw e at c.before.loop.invariant.0
+    let e : c.before.loop-j.j ≡ length c.before.before.args.src.now = omega arith in
+    rw e at c.before.loop-j.invariant.0
 
 pub copy_in_spec : {M : Type 1} → statement M
 copy_in_spec =

@@ -10,9 +10,9 @@ returns c =
     let s = c.before.before in
     let f = s.before.before.before.before in
     let a = f.before.before.before in
-    s.put-u162.ensures ∙ rw f.put-u16.ensures (stored-run 2 2 a.args.at a.args.n a.args.s.now (omega arith))
+    s.put_u16-2.ensures ∙ rw f.put_u16.ensures (stored-run 2 2 a.args.at a.args.n a.args.s.now (omega arith))
 
-pub put-u32-spec : {M : Type 1} → statement M
-put-u32-spec =
+pub put_u32_spec : {M : Type 1} → statement M
+put_u32_spec =
     tie.close
     (tie.spec (λ c. search rules) (λ c κs. search rules) (λ c. search rules) (λ c. search rules) (λ c κs. search rules) (λ c. search rules) returns)

@@ -10,9 +10,9 @@ returns c =
     let s = c.before.before in
     let f = s.before.before.before.before in
     let a = f.before.before.before in
-    s.put-u322.ensures ∙ rw f.put-u32.ensures (stored-run 4 4 a.args.at a.args.n a.args.s.now (omega arith))
+    s.put_u32-2.ensures ∙ rw f.put_u32.ensures (stored-run 4 4 a.args.at a.args.n a.args.s.now (omega arith))
 
-pub put-u64-spec : {M : Type 1} → statement M
-put-u64-spec =
+pub put_u64_spec : {M : Type 1} → statement M
+put_u64_spec =
     tie.close
     (tie.spec (λ c. search rules) (λ c κs. search rules) (λ c. search rules) (λ c. search rules) (λ c κs. search rules) (λ c. search rules) returns)

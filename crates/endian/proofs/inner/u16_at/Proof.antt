@@ -11,7 +11,7 @@ returns c =
     let a = c.before.before.before.before.before.args in
     omega (arith, number-split 1 1 a.at a.s.now, number-byte a.at a.s.now, number-byte (a.at + 1) a.s.now)
 
-pub u16-at-spec : {M : Type 1} → statement M
-u16-at-spec =
+pub u16_at_spec : {M : Type 1} → statement M
+u16_at_spec =
     tie.close
     (tie.spec (λ c. search rules) (λ c κs. search rules) (λ c. search rules) (λ c. search rules) (λ c κs. search rules) (λ c. search rules) (λ c. search rules) returns)

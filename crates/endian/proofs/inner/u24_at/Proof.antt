@@ -11,7 +11,7 @@ returns c =
     let a = c.before.before.before.before.args in
     omega (arith, number-split 2 1 a.at a.s.now, number-byte (a.at + 2) a.s.now)
 
-pub u24-at-spec : {M : Type 1} → statement M
-u24-at-spec =
+pub u24_at_spec : {M : Type 1} → statement M
+u24_at_spec =
     tie.close
     (tie.spec (λ c κs. search rules) (λ c. search rules) (λ c. search rules) (λ c. search rules) (λ c κs. search rules) (λ c. search rules) (λ c. search rules) (λ c. search rules) returns)

@@ -4,8 +4,8 @@ use borrow.Author.Rules.{rules}
 use Rattle.index.proofs.inner.near.afar.Statement.{statement}
 use Rattle.index.proofs.inner.near.afar.Tie as tie
 
-pub afar-spec : {M : Type 1} → statement M
-afar-spec =
+pub afar_spec : {M : Type 1} → statement M
+afar_spec =
     tie.close
     (tie.spec
     (λ c κs. search rules)
@@ -15,4 +15,4 @@ afar-spec =
     (λ c. search rules)
     (λ c. search rules)
     (λ c. search rules)
-    (λ c. c.before.guessed.ensures c.if1.false))
+    (λ c. c.before.guessed-p.ensures c.if-p-eq0.false))

@@ -7,8 +7,8 @@ use Rattle.index.proofs.Finding.{past_end}
 use Rattle.index.proofs.inner.near.searched.Statement.{statement}
 use Rattle.index.proofs.inner.near.searched.Tie as tie
 
-pub searched-spec : {M : Type 1} → statement M
-searched-spec =
+pub searched_spec : {M : Type 1} → statement M
+searched_spec =
     tie.close
     (tie.spec
     (λ c κs. search rules)
@@ -17,5 +17,5 @@ searched-spec =
     (λ c. search rules)
     (λ c. search rules)
     (λ c. search rules)
-    (λ c. c.before.before.position.ensures.1)
-    (λ c. sym (past_end c.before.before.before.before.args.a.now c.before.position.result c.if1.false) ∙ c.before.position.ensures.1))
+    (λ c. c.before.before.position-i.ensures.1)
+    (λ c. sym (past_end c.before.before.before.before.args.a.now c.before.position-i.result c.if-i-a.false) ∙ c.before.position-i.ensures.1))
