@@ -226,7 +226,7 @@ module _ (s : List ℕ) (c : ℕ) where
       let k = entry_at s p q in
       let to = end-from (p + u.length) us in
       let same : part p u.length s ≡ part p u.length (take c s) = sym (part-take p u.length c s (omega arith)) in
-      let more = walk-cut us vs w h in
+      let more = walk-cut {p = p + u.length} us vs w h in
       let kept = carried k (take c s) same (omega (arith, length-take c s)) in
       (next (take c s) p (is_whole kept) ∙ ap (λ (l : List EntryView). u ∷ l) more.0, ap₂ ◌∷◌ (sym (same-entry k (take c s) (fewer k (take c s) same))) more.1)
 

@@ -42,11 +42,11 @@ walk-views {s} {p} (step q w) = let k = entry_at s p q in rw (size-of k, view-of
 
 walk-sum : {s : List ℕ} {p : ℕ} (us vs : List EntryView) → Walk s p (us ++ vs) → end_from p us ≡ p + sizes_of (map (entry_of s) us)
 walk-sum [] vs w = omega arith
-walk-sum {s} {p} (u ∷ us) vs (step q w) = let k = entry_at s p q in omega (arith, size-of k, walk-sum us vs w)
+walk-sum {s} {p} (u ∷ us) vs (step q w) = let k = entry_at s p q in omega (arith, size-of k, walk-sum {p = p + u.length} us vs w)
 
 walk-rest : {s : List ℕ} {p : ℕ} (us : List EntryView) {vs : List EntryView} → Walk s p (us ++ vs) → Walk s (end_from p us) vs
 walk-rest [] w = w
-walk-rest (u ∷ us) (step q w) = walk-rest us w
+walk-rest {p = p} (u ∷ us) (step q w) = walk-rest {p = p + u.length} us w
 
 module _ (s : List ℕ) where
   -- what the entries say determines how and where they stand

@@ -202,7 +202,7 @@ module _ (s : List ℕ) where
     where
       rest : {at : ℕ} (us : List EntryView) {vs : List EntryView} → Walk s at (us ++ vs) → Walk s (end_from at us) vs
       rest [] w = w
-      rest (u ∷ us) (step q w) = rest us w
+      rest {at = at} (u ∷ us) (step q w) = rest {at = at + u.length} us w
 
       first_of : {at : ℕ} {v : EntryView} {vs : List EntryView} → Walk s at (v ∷ vs) → read_at s at ≡ Whole v
       first_of (step q w) = q

@@ -9,20 +9,20 @@ use Rattle.wal.proofs.WalkLaws.{entry_at}
 use Rattle.wal.proofs.reader.forward_at.Statement.{statement}
 use Rattle.wal.proofs.reader.forward_at.Tie as tie
 
-found : (c : tie.After-known-told) → read_at c.before.before.before.before.before.args.log.now c.before.before.before.before.before.args.place ≡ Whole c.before.found.given.0.0
-found c = sym c.before.before.before.entry_at.ensures ∙ c.before.found.given.1
+found : (c : tie.In-Whole) → read_at c.before.before.before.args.log.now c.before.before.before.args.place ≡ Whole c.in-Whole.v
+found c = sym c.before.entry_at-found.ensures ∙ c.in-Whole.is
 
-returns : tie.Need-returns
+returns : tie.Need-returns-in_default
 returns c =
-    let e = c.before.entry_at.ensures in
+    let e = c.before.entry_at-found.ensures in
     let p = c.before.before.before.args.place in
-    (e, stays c.before.entry_at.result p c.match.keys2 ∙ ap (λ r. place_after r p) e)
+    (e, stays c.before.entry_at-found.result p c.in_default.in_default-own.keys2 ∙ ap (λ r. place_after r p) e)
 
-add-t5 : tie.Need-overflow-add-t5
+add-t5 : tie.Need-overflow_add-result
 add-t5 c = let k = entry_at _ _ (found c.before) in omega arith
 
-returns-2 : tie.Need-returns-2
+returns-2 : tie.Need-returns
 returns-2 c = let f = found c.before in (sym f, led _ _ f)
 
-pub forward-at-spec : {M : Type 1} → statement M
-forward-at-spec = tie.close (tie.spec (λ c κs. search rules) (λ c. search rules) returns add-t5 returns-2)
+pub forward_at_spec : {M : Type 1} → statement M
+forward_at_spec = tie.close (tie.spec (λ c κs. search rules) (λ c. search rules) returns add-t5 returns-2)

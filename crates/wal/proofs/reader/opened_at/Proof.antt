@@ -4,15 +4,15 @@ use Rattle.wal.proofs.ReaderLaws.{refused, opened-end, opened-first}
 use Rattle.wal.proofs.reader.opened_at.Statement.{statement}
 use Rattle.wal.proofs.reader.opened_at.Tie as tie
 
-returns : tie.Need-returns
-returns c = refused _ _ _ (λ q. c.if1.true (c.before.header-fault.ensures ∙ q))
+returns : tie.Need-returns-then-header_fault-ne0
+returns c = refused _ _ _ (λ q. c.if-header_fault-ne0.true (c.before.header_fault.ensures ∙ q))
 
-returns-2 : tie.Need-returns-2
-returns-2 c = c.end-of.ensures ∙ opened-end _ _ (sym c.before.before.before.header-fault.ensures ∙ c.before.before.if1.false) c.before.if2.true
+returns-2 : tie.Need-returns-then-at_end
+returns-2 c = c.end_of.ensures ∙ opened-end _ _ (sym c.before.before.before.header_fault.ensures ∙ c.before.before.if-header_fault-ne0.false) c.before.if-at_end.true
 
-returns-3 : tie.Need-returns-3
-returns-3 c = opened-first _ _ (sym c.before.before.header-fault.ensures ∙ c.before.if1.false) c.if2.false
+returns-3 : tie.Need-returns
+returns-3 c = opened-first _ _ (sym c.before.before.header_fault.ensures ∙ c.before.if-header_fault-ne0.false) c.if-at_end.false
 
-pub opened-at-spec : {M : Type 1} → statement M
-opened-at-spec =
+pub opened_at_spec : {M : Type 1} → statement M
+opened_at_spec =
     tie.close (tie.spec (λ c κs. search rules) returns (λ c κs. search rules) returns-2 returns-3)
