@@ -7,47 +7,47 @@ use Rattle.page.proofs.Verdicts.{number_of, accepted-size}
 use Rattle.page.proofs.free_map.Statement.{statement}
 use Rattle.page.proofs.free_map.Tie as tie
 
-returns : tie.Need-returns
-returns c = map-refused _ _ _ _ c.before.before.verify.ensures c.if1.true
+returns : tie.Need-returns-then-v-ne0
+returns c = map-refused _ _ _ _ c.before.before.verify-v.ensures c.if-v-ne0.true
 
-returns-2 : tie.Need-returns-2
+returns-2 : tie.Need-returns-then-map-need
 returns-2 c =
     let i = c.before in
-    map-short _ _ _ _ i.before.before.verify.ensures i.if1.false c.if2.true
+    map-short _ _ _ _ i.before.before.verify-v.ensures i.if-v-ne0.false c.if-map-need.true
 
 fill-requires : tie.Need-fill-requires
 fill-requires c κs =
     let i = c.before.before in
     let a = i.before.before.before.before.before.args in
-    let z = accepted-size a.magic a.pages.now 0 (sym (ap number_of i.before.before.verify.ensures) ∙ i.if1.false) in
-    (c.before.if2.false, omega arith)
+    let z = accepted-size a.magic a.pages.now 0 (sym (ap number_of i.before.before.verify-v.ensures) ∙ i.if-v-ne0.false) in
+    (c.before.if-map-need.false, omega arith)
 
 -- the bytes that are counted are there, since filling keeps the map's length
-there : tie.Need-slice-reshare-prefix-ones
+there : tie.Need-slice_bounds-ones-end
 there c =
     let a = c.before.before.before.before.before.before.before.before.before.before.args in
-    rw (c.before.before.fill.ensures, length-filled a.pages.now a.map.now _ c.before.before.before.before.if2.false) (omega (arith, c.before.before.before.before.if2.false))
+    rw (c.before.before.fill.ensures, length-filled a.pages.now a.map.now _ c.before.before.before.before.if-map-need.false) (omega (arith, c.before.before.before.before.if-map-need.false))
 
 ones-requires : tie.Need-ones-requires
 ones-requires c κs =
     let i = c.before.before.before.before.before.before in
-    let a = i.before.before.before.before.before.args in
-    let z = accepted-size a.magic a.pages.now 0 (sym (ap number_of i.before.before.verify.ensures) ∙ i.if1.false) in
+    let a = i.before.before.before.before.args in
+    let z = accepted-size a.magic a.pages.now 0 (sym (ap number_of i.before.verify-v.ensures) ∙ i.verify-v.false) in
     rw (length-take-le _ _ (there c.before)) (omega arith)
 
-same_length : tie.Need-same-length
+same_length : tie.Need-shape_of-map
 same_length c =
-    let a = c.before.before.before.before.before.before.before.before.before.before.before.before.args in
-    rw c.before.before.before.before.fill.ensures (length-filled a.pages.now a.map.now _ c.before.before.before.before.before.before.if2.false)
+    let a = c.before.before.before.before.before.before.before.before.before.before.before.args in
+    rw c.before.before.before.fill.ensures (length-filled a.pages.now a.map.now _ c.before.before.before.before.before.before.if-v-ne0.false)
 
-returns-3 : tie.Need-returns-3
+returns-3 : tie.Need-returns
 returns-3 c =
     let e = c.before.before.before.before.before.before in
     let i = e.before in
-    let a = i.before.before.before.before.before.args in
-    rw (c.ones.ensures, c.before.before.before.before.fill.ensures) (map-filled a.magic a.pages.now a.map.now _ i.before.before.verify.ensures i.if1.false e.if2.false)
+    let a = i.before.before.before.before.args in
+    rw (c.ones.ensures, c.before.before.before.fill.ensures) (map-filled a.magic a.pages.now a.map.now _ i.before.verify-v.ensures i.verify-v.false e.if-map-need.false)
 
-pub free-map-spec : {M : Type 1} → statement M
-free-map-spec =
+pub free_map_spec : {M : Type 1} → statement M
+free_map_spec =
     tie.close
     (tie.spec (λ c κs. search rules) returns (λ c. search rules) returns-2 fill-requires there (λ c. sym (length-take-le _ _ (there c.before))) ones-requires same_length returns-3)

@@ -7,7 +7,7 @@ returns : tie.Need-returns
 unfolding share
 returns c = cc
 
-pub shares-spec : {M : Type 1} → statement M
-shares-spec =
+pub shares_spec : {M : Type 1} → statement M
+shares_spec =
     tie.close
     (tie.spec (λ c κs. search rules) (λ c κs. search rules) (λ c κs. search rules) (λ c κs. search rules) (λ c. search rules) (λ c κs. search rules) (λ c. search rules) (λ c κs. search rules) returns)

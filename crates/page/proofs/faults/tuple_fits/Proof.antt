@@ -6,22 +6,22 @@ use Rattle.page.proofs.SlotLaws.{tuple-last}
 use Rattle.page.proofs.faults.tuple_fits.Statement.{statement}
 use Rattle.page.proofs.faults.tuple_fits.Tie as tie
 
-returns : tie.Need-returns
+returns : tie.Need-returns-then-n-lt-ROW_HEAD_BYTES
 unfolding is_tuple
-returns c = simp (lt-leb _ _ c.if1.true)
+returns c = simp (lt-leb _ _ c.if-n-lt-ROW_HEAD_BYTES.true)
 
-returns-2 : tie.Need-returns-2
+returns-2 : tie.Need-returns-then-o-end
 unfolding is_tuple
-returns-2 c = simp (le-leb _ _ c.before.if1.false, lt-leb _ _ c.if2.true)
+returns-2 c = simp (le-leb _ _ c.before.if-n-lt-ROW_HEAD_BYTES.false, lt-leb _ _ c.if-o-end.true)
 
-returns-3 : tie.Need-returns-3
+returns-3 : tie.Need-returns-then-top-o
 unfolding is_tuple
-returns-3 c = simp (le-leb _ _ c.before.before.if1.false, le-leb _ _ c.before.if2.false, lt-leb _ _ c.if3.true)
+returns-3 c = simp (le-leb _ _ c.before.before.if-n-lt-ROW_HEAD_BYTES.false, le-leb _ _ c.before.if-o-end.false, lt-leb _ _ c.if-top-o.true)
 
-returns-4 : tie.Need-returns-4
-returns-4 c = sym (tuple-last c.before.before.before.before.args.page.now _ _ _ _ c.before.before.before.if1.false c.before.before.if2.false c.before.if3.false)
+returns-4 : tie.Need-returns
+returns-4 c = sym (tuple-last c.before.before.before.before.args.page.now _ _ _ _ c.before.before.before.if-n-lt-ROW_HEAD_BYTES.false c.before.before.if-o-end.false c.before.if-top-o.false)
 
-pub tuple-fits-spec : {M : Type 1} → statement M
-tuple-fits-spec =
+pub tuple_fits_spec : {M : Type 1} → statement M
+tuple_fits_spec =
     tie.close
     (tie.spec returns returns-2 (λ c. search rules) returns-3 (λ c. search rules) (λ c. search rules) returns-4)

@@ -13,57 +13,57 @@ use Rattle.page.proofs.SlotLaws.{fine-empty, fine-tuple}
 use Rattle.page.proofs.granules.placed.Statement.{statement}
 use Rattle.page.proofs.granules.placed.Tie as tie
 
-abbrev invariant-loop : tie.invariant-loop
+abbrev invariant-loop : tie.invariant-loop-k
 invariant-loop page end count grid₀ k₀ grid k = (k ≤ count) × Singly (body_of page) end k × Placed (body_of page) k grid
 
-abbrev decreases-loop : tie.decreases-loop
+abbrev decreases-loop : tie.decreases-loop-k
 decreases-loop page end count grid₀ k₀ grid k = count - k
 
-loop-holds : tie.Need-loop-init invariant-loop decreases-loop
+loop-holds : tie.Need-loop-k-init invariant-loop decreases-loop
 loop-holds c = (omega arith, singly-none _ _, rw c.before.requires.2 (placed-none _))
 
-loop-again : tie.Need-loop-preserved invariant-loop decreases-loop
+loop-again : tie.Need-loop-k-preserved-then-o-n-eq0 invariant-loop decreases-loop
 loop-again c =
     let n = c.before in
     let o = n.before in
-    let l = o.before.before.loop in (
+    let l = o.before.before.loop-k in (
       omega arith,
-      singly-more _ _ l.invariant.1 (sym (fine-empty _ _ _ _ _ o.slot-off.ensures.0 n.slot-len.ensures.0 c.if1.true)),
-      placed-empty _ l.invariant.2 (omega (arith, n.slot-len.ensures.0)),
+      singly-more _ _ l.invariant.1 (sym (fine-empty _ _ _ _ _ o.slot_off-o.ensures.0 n.slot_len-n.ensures.0 c.if-o-n-eq0.true)),
+      placed-empty _ l.invariant.2 (omega (arith, n.slot_len-n.ensures.0)),
     )
 
-returns : tie.Need-returns invariant-loop decreases-loop
+returns : tie.Need-returns-then-not-tuple_fits invariant-loop decreases-loop
 returns c = never
 
 -- slot k holds a tuple
-fits : (c : tie.Else2 invariant-loop decreases-loop) → let n = c.before.before.before in let a = n.before.before.before.before.before.args in
-    is_tuple (body_of a.page.now) a.end body_bytes n.before.slot-off.result n.slot-len.result ≡ true
-fits c = sym c.before.tuple-fits.ensures ∙ not-false _ c.if2.false
+fits : (c : tie.Else-not-tuple_fits invariant-loop decreases-loop) → let n = c.before.before.before in let a = n.before.before.before.before.before.args in
+    is_tuple (body_of a.page.now) a.end body_bytes n.before.slot_off-o.result n.slot_len-n.result ≡ true
+fits c = sym c.before.tuple_fits.ensures ∙ not-false _ c.if-not-tuple_fits.false
 
-element-copy-out-if3 : tie.Need-element-copy-out-if3 invariant-loop decreases-loop
+element-copy-out-if3 : tie.Need-bounds-grid-g invariant-loop decreases-loop
 element-copy-out-if3 c = start-in _ _ _ _ (fits c)
 
-returns-2 : tie.Need-returns-2 invariant-loop decreases-loop
+returns-2 : tie.Need-returns-then-grid-g-ne0 invariant-loop decreases-loop
 returns-2 c = never
 
-element-write-grid : tie.Need-element-write-grid invariant-loop decreases-loop
+element-write-grid : tie.Need-bounds-grid-g-in-loop-k invariant-loop decreases-loop
 element-write-grid c = start-in _ _ _ _ (fits c.before.before)
 
-loop-again-2 : tie.Need-loop-preserved-2 invariant-loop decreases-loop
+loop-again-2 : tie.Need-loop-k-preserved invariant-loop decreases-loop
 loop-again-2 c =
     let t = c.before.before in
     let n = t.before.before.before in
     let o = n.before in
-    let l = o.before.before.loop in (
+    let l = o.before.before.loop-k in (
       omega arith,
-      singly-more _ _ l.invariant.1 (sym (fine-tuple _ _ _ _ _ o.slot-off.ensures.0 n.slot-len.ensures.0 t.before.before.if1.false) ∙ fits t),
-      placed-tuple _ l.invariant.2 _ o.slot-off.ensures.0 (start-in _ _ _ _ (fits t)) c.if3.false,
+      singly-more _ _ l.invariant.1 (sym (fine-tuple _ _ _ _ _ o.slot_off-o.ensures.0 n.slot_len-n.ensures.0 t.before.before.if-o-n-eq0.false) ∙ fits t),
+      placed-tuple _ l.invariant.2 _ o.slot_off-o.ensures.0 (start-in _ _ _ _ (fits t)) c.if-grid-g-ne0.false,
     )
 
-returns-3 : tie.Need-returns-3 invariant-loop decreases-loop
-returns-3 c = λ _. let l = c.before.loop in placed-all _ _ _ l.invariant.0 (omega arith) l.invariant.1 l.invariant.2
+returns-3 : tie.Need-returns invariant-loop decreases-loop
+returns-3 c = λ _. let l = c.before.loop-k in placed-all _ _ _ l.invariant.0 (omega arith) l.invariant.1 l.invariant.2
 
-pub placed-spec : {M : Type 1} → statement M
-placed-spec =
+pub placed_spec : {M : Type 1} → statement M
+placed_spec =
     tie.close
     (tie.spec invariant-loop decreases-loop loop-holds (λ c κs. search rules) (λ c κs. search rules) (λ c. search rules) (λ c. search rules) (λ c. search rules) loop-again (λ c κs. search rules) returns (λ c. search rules) element-copy-out-if3 returns-2 (λ c. search rules) (λ c. search rules) element-write-grid (λ c. search rules) loop-again-2 returns-3)

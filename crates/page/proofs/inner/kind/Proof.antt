@@ -7,5 +7,5 @@ use Rattle.page.proofs.inner.kind.Tie as tie
 returns : tie.Need-returns
 returns c = sym (number-byte 8 _)
 
-pub kind-spec : {M : Type 1} → statement M
-kind-spec = tie.close (tie.spec (λ c. search rules) returns)
+pub kind_spec : {M : Type 1} → statement M
+kind_spec = tie.close (tie.spec (λ c. search rules) returns)

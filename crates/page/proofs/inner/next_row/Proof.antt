@@ -3,8 +3,8 @@ use Rattle.page.proofs.Noting.{noted_nothing}
 use Rattle.page.proofs.inner.next_row.Statement.{statement}
 use Rattle.page.proofs.inner.next_row.Tie as tie
 
-next-shown-requires : tie.Need-next-shown-requires
+next-shown-requires : tie.Need-next_shown-requires
 next-shown-requires c κs = (c.before.before.requires, noted_nothing _ _)
 
-pub next-row-spec : {M : Type 1} → statement M
-next-row-spec = tie.close (tie.spec (λ c. search rules) next-shown-requires (λ c. search rules))
+pub next_row_spec : {M : Type 1} → statement M
+next_row_spec = tie.close (tie.spec (λ c. search rules) next-shown-requires (λ c. search rules))

@@ -6,14 +6,14 @@ use Rattle.page.proofs.RowLists.{page-none}
 use Rattle.page.proofs.inner.note.Statement.{statement}
 use Rattle.page.proofs.inner.note.Tie as tie
 
-row-on-requires : tie.Need-row-on-requires
+row-on-requires : tie.Need-row_on-r-requires
 row-on-requires c κs = let s = c.before in (s.requires.0, (s.requires.1.0, (never, s.requires.1.1)))
 
-returns : tie.Need-returns
+returns : tie.Need-returns-in_default
 returns c = λ e. absurd (omega arith)
 
-returns-2 : tie.Need-returns-2
-returns-2 c = λ e. page-none _ _ _ (sym c.before.before.row_on.ensures ∙ c.enum_told.given.1)
+returns-2 : tie.Need-returns
+returns-2 c = λ e. page-none _ _ _ (sym c.before.row_on-r.ensures ∙ c.enum_told-1.given.1)
 
-pub note-spec : {M : Type 1} → statement M
-note-spec = tie.close (tie.spec row-on-requires (λ c. search rules) returns returns-2)
+pub note_spec : {M : Type 1} → statement M
+note_spec = tie.close (tie.spec row-on-requires (λ c. search rules) returns returns-2)

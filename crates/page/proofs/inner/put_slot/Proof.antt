@@ -12,10 +12,10 @@ returns c =
     let o = c1.before in
     let s = o.before.before.before.before.args in (
       search rules,
-      slot-stored s.work.now s.tuple.now _ _ _ s.k s.top o.off_of.result (omega arith) o.off_of.ensures c1.put-u16.ensures c2.put-u162.ensures c3.copy-in.ensures,
+      slot-stored s.work.now s.tuple.now _ _ _ s.k s.top o.off_of.result (omega arith) o.off_of.ensures c1.put_u16.ensures c2.put_u16-2.ensures c3.copy_in.ensures,
     )
 
-pub put-slot-spec : {M : Type 1} → statement M
-put-slot-spec =
+pub put_slot_spec : {M : Type 1} → statement M
+put_slot_spec =
     tie.close
     (tie.spec (λ c. search rules) (λ c. search rules) (λ c. search rules) (λ c κs. search rules) (λ c κs. search rules) (λ c. search rules) (λ c. search rules) (λ c. search rules) (λ c κs. search rules) (λ c. search rules) (λ c κs. search rules) (λ c. search rules) returns)

@@ -5,7 +5,7 @@ use Rattle.page.proofs.inner.slot_off.Statement.{statement}
 use Rattle.page.proofs.inner.slot_off.Tie as tie
 
 returns : tie.Need-returns
-returns c = (c.u16-at.ensures ∙ off_at _ _, search rules)
+returns c = (c.u16_at.ensures ∙ off_at _ _, search rules)
 
-pub slot-off-spec : {M : Type 1} → statement M
-slot-off-spec = tie.close (tie.spec (λ c. search rules) (λ c. search rules) (λ c κs. search rules) (λ c. search rules) returns)
+pub slot_off_spec : {M : Type 1} → statement M
+slot_off_spec = tie.close (tie.spec (λ c. search rules) (λ c. search rules) (λ c κs. search rules) (λ c. search rules) returns)

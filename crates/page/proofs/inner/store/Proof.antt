@@ -10,7 +10,7 @@ returns c =
     let s = c.before.before in
     let a = s.before.before.before.before.args in
     let at = a.index * 16384 in
-    page-stored a.pages.now s.copy-in.new.0 a.work.now at (at + 16384 - at) (omega arith) (omega arith) (omega arith) s.copy-in.ensures
+    page-stored a.pages.now s.copy_in.new.dst a.work.now at (at + 16384 - at) (omega arith) (omega arith) (omega arith) s.copy_in.ensures
 
 pub store_spec : {M : Type 1} → statement M
 store_spec =

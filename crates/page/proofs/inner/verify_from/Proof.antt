@@ -4,11 +4,11 @@ use Rattle.page.proofs.Verdicts.{case-size, case-search}
 use Rattle.page.proofs.inner.verify_from.Statement.{statement}
 use Rattle.page.proofs.inner.verify_from.Tie as tie
 
-returns : tie.Need-returns
-returns c = c.refusal.ensures ∙ case-size _ _ _ (sym c.before.before.size-wrong.ensures ∙ c.before.if1.true)
+returns : tie.Need-returns-then-size_wrong
+returns c = c.refusal.ensures ∙ case-size _ _ _ (sym c.before.before.size_wrong.ensures ∙ c.before.if-size_wrong.true)
 
-returns-2 : tie.Need-returns-2
-returns-2 c = c.first-bad.ensures ∙ case-search _ _ _ (sym c.before.before.size-wrong.ensures ∙ c.before.if1.false)
+returns-2 : tie.Need-returns
+returns-2 c = c.first_bad.ensures ∙ case-search _ _ _ (sym c.before.before.size_wrong.ensures ∙ c.before.if-size_wrong.false)
 
-pub verify-from-spec : {M : Type 1} → statement M
-verify-from-spec = tie.close (tie.spec (λ c κs. search rules) (λ c κs. search rules) returns (λ c κs. search rules) returns-2)
+pub verify_from_spec : {M : Type 1} → statement M
+verify_from_spec = tie.close (tie.spec (λ c κs. search rules) (λ c κs. search rules) returns (λ c κs. search rules) returns-2)

@@ -3,8 +3,8 @@ use Rattle.page.proofs.Writing.{off-some}
 use Rattle.page.proofs.writer.off_of.Statement.{statement}
 use Rattle.page.proofs.writer.off_of.Tie as tie
 
-returns-2 : tie.Need-returns-2
-returns-2 c = off-some _ _ c.if1.false
+returns-2 : tie.Need-returns
+returns-2 c = off-some _ _ c.if-n-eq0.false
 
-pub off-of-spec : {M : Type 1} → statement M
-off-of-spec = tie.close (tie.spec (λ c. search rules) (λ c. search rules) returns-2)
+pub off_of_spec : {M : Type 1} → statement M
+off_of_spec = tie.close (tie.spec (λ c. search rules) (λ c. search rules) returns-2)

@@ -12,9 +12,9 @@ returns c =
     let c1 = c2.before.before.before.before in
     let s = c1.before.before.before in
     front-stored s.args.work.now s.requires.0 s.args.magic s.args.kind s.args.count s.args.crc _ _ _ _ _
-    c1.put-u64.ensures c2.put-u8.ensures c3.put-u82.ensures c4.put-u16.ensures c5.put-u32.ensures
+    c1.put_u64.ensures c2.put_u8.ensures c3.put_u8-2.ensures c4.put_u16.ensures c5.put_u32.ensures
 
-pub put-front-spec : {M : Type 1} → statement M
-put-front-spec =
+pub put_front_spec : {M : Type 1} → statement M
+put_front_spec =
     tie.close
     (tie.spec (λ c κs. search rules) (λ c κs. search rules) (λ c κs. search rules) (λ c. search rules) (λ c κs. search rules) (λ c κs. search rules) (λ c. search rules) returns)
