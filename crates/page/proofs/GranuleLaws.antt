@@ -1,9 +1,9 @@
 -- The pass by granules: slots entered one by one, granules gone over one by one, and that no slot is then at fault.
 -- Assumes nothing.
-use mathlib.Core.Path.{◌≡◌, refl, sym, ap, ◌∙◌}
+use mathlib.Core.Path.{◌≡◌, refl, ap, ◌∙◌}
 use mathlib.Core.Logic.{◌⊎◌, inl, inr}
 use mathlib.Core.Bool.{Bool, true, false}
-use Prim.Native.Nat.{ℕ, zero, suc, ◌+◌, ◌-◌, ◌/◌, ◌≤◌, ◌<◌}
+use Prim.Native.Nat.{ℕ, suc, ◌+◌, ◌-◌, ◌/◌, ◌≤◌, ◌<◌}
 use native.Mathlib.Decide.{dec_le}
 use native.Mathlib.Omega.{arith}
 use mathlib.Core.List.{List}
@@ -13,10 +13,10 @@ use lib.Dec.{eqb}
 use borrow.Author.Tests.{eqb-true, eqb-false}
 use Rattle.page.specs.Layout.{body_bytes, row_head, slot_off, slot_len}
 use Rattle.page.specs.Good.{Holds}
-use Rattle.page.specs.Fault.{is_tuple, is_filled, share, slots_fault}
+use Rattle.page.specs.Fault.{is_tuple, slots_fault}
 use Rattle.page.specs.Granules.{granules, granule_of, Singly, Placed, Lined}
 use Rattle.page.specs.declared.Fault.TheVariants.{Sound}
-use Rattle.page.proofs.SlotLaws.{fine, fine-good, fine-empty, fine-tuple, test_fits, apart-share, none-earlier, faulty-not, slots-sound}
+use Rattle.page.proofs.SlotLaws.{fine, fine-good, test_fits, apart-share, none-earlier, faulty-not, slots-sound}
 
 -- ---- the slots
 

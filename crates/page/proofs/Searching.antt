@@ -1,19 +1,17 @@
 -- A search over visible rows: how code goes from row to row, and that it gives the first row that passes the test, or none exactly when there is none.
 -- Assumes nothing.
-use mathlib.Core.Path.{◌≡◌, refl, sym, ap, ◌∙◌}
+use mathlib.Core.Path.{◌≡◌, refl, sym, ap, subst, ◌∙◌}
 use mathlib.Core.Logic.{inr}
 use mathlib.Core.Bool.{Bool, true, false}
-use Prim.Native.Nat.{ℕ, suc, ◌+◌, ◌≤◌, ◌<◌}
+use Prim.Native.Nat.{ℕ, suc, ◌+◌}
 use native.Mathlib.Omega.{arith}
 use mathlib.Core.List.{List, [], ◌∷◌}
 use borrow.Author.Tests.{eq-eqb, ne_eqb}
 use Rattle.endian.specs.Pick.{pick}
 use Rattle.page.specs.Layout.{pages_in, page_at}
-use Rattle.page.specs.Rows.{visible, row, visible_rows, at_or_after, first_at, rows_at, unless_refused, first_with, searched}
+use Rattle.page.specs.Rows.{visible, row, visible_rows, at_or_after, first_at, rows_at, first_with, searched}
 use Rattle.page.specs.Fault.{verdict_of}
-use Rattle.refusals.specs.declared.Verdict.{Verdict}
 use Rattle.page.specs.declared.Row.{Row}
-use Rattle.page.specs.declared.NextRow.{NextRow}
 use Rattle.page.specs.declared.NextRow.TheVariants.{Refused, At, NoMore}
 use Rattle.page.proofs.Picks.{never}
 use Rattle.page.proofs.ListedRows.{InSlot, Each, rows-each, each_row}
@@ -107,7 +105,7 @@ module _ (f : Row → Bool) where
       go true h more z =
           let w : q ≡ r = ap (row_or r) z in
           let all : Each (λ x. at_or_after q.page.0 q.slot x ≡ true) (q ∷ rs) = rising-each q.page.0 q.slot (q ∷ rs) (inr (refl, omega arith), u.1) in
-          rw (← w) (passes-weaker q (q ∷ rs) all)
+          passes-weaker r (q ∷ rs) (subst (λ (p : Row). Each (λ x. at_or_after p.page.0 p.slot x ≡ true) (q ∷ rs)) w all)
       go false h more z = (λ o. never (sym h ∙ o), more z)
 
   module _ (s : List ℕ) where

@@ -1,5 +1,5 @@
 -- Visible rows (paper 01, Numbers given back; paper 02, W2), and the cancelled ones.
-use Rattle.std.specs.Prelude.{ℕ, zero, suc, ◌+◌, ◌*◌, ◌/◌, ◌<◌, ◌≡◌, List, [], ◌∷◌, ◌++◌, Bool, false, not, ◌&&◌, length, take, drop, ltb, leb, eqb}
+use Rattle.std.specs.Prelude.{ℕ, zero, suc, ◌*◌, ◌/◌, ◌<◌, ◌≡◌, List, [], ◌∷◌, ◌++◌, Bool, false, not, ◌&&◌, length, take, drop, ltb, leb, eqb}
 use Rattle.endian.specs.Pick.{pick, cons_if}
 use Rattle.page.specs.Layout.{data_type, pages_in, page_at, type_of, count_of, slot_at, tuple_offset, xmax_of, deleted_of, payload_of}
 use Rattle.page.specs.Fault.{verdict_of}

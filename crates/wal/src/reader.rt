@@ -6,7 +6,7 @@ ghost use Rattle.wal.specs.Reader.{kept_log, opened_at, place_after, place_befor
 use crate::{Before, FIRST, Reading, end_of, entry_at, entry_before, header_fault};
 
 // The number is refusal 2 or 3 of the log, or 0; a refused log is held as an empty one, at place 0.
-#[derive(Drop)]
+#[derive(Clone, Copy)]
 pub struct LogReader<'a> {
     pub log: &'a [u8],
     pub place: usize,
@@ -14,14 +14,14 @@ pub struct LogReader<'a> {
 }
 
 // What a reader's step forward finds, and the reader after it.
-#[derive(Drop)]
+#[derive(Clone, Copy)]
 pub struct ReadForward<'a> {
     pub found: Reading,
     pub reader: LogReader<'a>,
 }
 
 // What a reader's step backward finds, and the reader after it.
-#[derive(Drop)]
+#[derive(Clone, Copy)]
 pub struct ReadBackward<'a> {
     pub found: Before,
     pub reader: LogReader<'a>,

@@ -17,37 +17,33 @@ returns-2 c =
 
 fill-requires : tie.Need-fill-requires
 fill-requires c κs =
-    let i = c.before.before in
-    let a = i.before.before.before.before.before.args in
-    let z = accepted-size a.magic a.pages.now 0 (sym (ap number_of i.before.before.verify-v.ensures) ∙ i.if-v-ne0.false) in
-    (c.before.if-map-need.false, omega arith)
+    let a = c.args in
+    let z = accepted-size a.magic a.pages.now 0 (sym (ap number_of c.verify-v.ensures) ∙ c.if-v-ne0.false) in
+    (c.if-map-need.false, omega arith)
 
 -- the bytes that are counted are there, since filling keeps the map's length
 there : tie.Need-slice_bounds-ones-end
 there c =
-    let a = c.before.before.before.before.before.before.before.before.before.before.args in
-    rw (c.before.before.fill.ensures, length-filled a.pages.now a.map.now _ c.before.before.before.before.if-map-need.false) (omega (arith, c.before.before.before.before.if-map-need.false))
+    let a = c.args in
+    rw (c.fill.ensures, length-filled a.pages.now a.map.now _ c.if-map-need.false) (omega (arith, c.if-map-need.false))
 
 ones-requires : tie.Need-ones-requires
 ones-requires c κs =
-    let i = c.before.before.before.before.before.before in
-    let a = i.before.before.before.before.args in
-    let z = accepted-size a.magic a.pages.now 0 (sym (ap number_of i.before.verify-v.ensures) ∙ i.verify-v.false) in
-    rw (length-take-le _ _ (there c.before)) (omega arith)
+    let a = c.args in
+    let z = accepted-size a.magic a.pages.now 0 (sym (ap number_of c.verify-v.ensures) ∙ c.if-v-ne0.false) in
+    rw (length-take-le _ _ (there c)) (omega arith)
 
 same_length : tie.Need-shape_of-map
 same_length c =
-    let a = c.before.before.before.before.before.before.before.before.before.before.before.args in
-    rw c.before.before.before.fill.ensures (length-filled a.pages.now a.map.now _ c.before.before.before.before.before.before.if-v-ne0.false)
+    let a = c.args in
+    rw c.fill.ensures (length-filled a.pages.now a.map.now _ c.if-map-need.false)
 
 returns-3 : tie.Need-returns
 returns-3 c =
-    let e = c.before.before.before.before.before.before in
-    let i = e.before in
-    let a = i.before.before.before.before.args in
-    rw (c.ones.ensures, c.before.before.before.fill.ensures) (map-filled a.magic a.pages.now a.map.now _ i.before.verify-v.ensures i.verify-v.false e.if-map-need.false)
+    let a = c.args in
+    rw (c.ones.ensures, c.fill.ensures) (map-filled a.magic a.pages.now a.map.now _ c.verify-v.ensures c.if-v-ne0.false c.if-map-need.false)
 
 pub free_map_spec : {M : Type 1} → statement M
 free_map_spec =
     tie.close
-    (tie.spec (λ c κs. search rules) returns (λ c. search rules) returns-2 fill-requires there (λ c. sym (length-take-le _ _ (there c.before))) ones-requires same_length returns-3)
+    (tie.spec (λ c κs. search rules) returns (λ c. search rules) returns-2 fill-requires there (λ c. sym (length-take-le _ _ (there c))) ones-requires same_length returns-3)

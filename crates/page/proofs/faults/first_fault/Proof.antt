@@ -2,7 +2,6 @@ use mathlib.Core.Path.{refl, ◌≡◌, sym, ◌∙◌}
 use mathlib.Core.Bool.{false}
 use Prim.Native.Nat.{◌-◌, ◌≤◌}
 use native.Mathlib.Omega.{arith}
-use borrow.Author.Tests.{not-true, not-false}
 use borrow.Author.Rules.{rules}
 use Rattle.page.specs.declared.Fault.TheVariants.{Sound}
 use Rattle.page.specs.Fault.{shares_earlier, slots_fault}
@@ -33,7 +32,7 @@ slots-again c =
     let z : slot_len _ _ ≡ 0 = sym c.before.slot_len.ensures.0 ∙ c.if-slot_len-eq0.true in (
       s.invariant.0,
       omega arith,
-      slots_next _ _ _ _ (omega arith) (sym f.before.slot_fits.ensures ∙ not-false _ f.if-not-slot_fits.false) (earlier-empty _ _ z _) ∙ s.invariant.2,
+      slots_next _ _ _ _ (omega arith) (sym f.before.slot_fits.ensures ∙ f.if-not-slot_fits.false) (earlier-empty _ _ z _) ∙ s.invariant.2,
     )
 
 earlier-holds : tie.Need-earlier-init invariant-earlier decreases-earlier invariant-slots decreases-slots
@@ -54,7 +53,7 @@ slots-again-2 c =
     let none = rw z at e.invariant.2 in (
       e.invariant.0,
       omega arith,
-      slots_next _ _ _ _ (omega arith) (sym f.before.slot_fits.ensures ∙ not-false _ f.if-not-slot_fits.false) none ∙ s.invariant.2,
+      slots_next _ _ _ _ (omega arith) (sym f.before.slot_fits.ensures ∙ f.if-not-slot_fits.false) none ∙ s.invariant.2,
     )
 
 returns : tie.Need-returns-after-slots invariant-earlier decreases-earlier invariant-slots decreases-slots
@@ -65,14 +64,14 @@ returns c =
 returns-2 : tie.Need-returns-then-not-slot_fits invariant-earlier decreases-earlier invariant-slots decreases-slots
 returns-2 c =
     let s = c.before.before.before.slots in
-    sym (slots-hit _ _ _ s.k (search rules) (faulty-itself _ _ _ (sym c.before.slot_fits.ensures ∙ not-true _ c.if-not-slot_fits.true))) ∙ s.invariant.2
+    sym (slots-hit _ _ _ s.k (search rules) (faulty-itself _ _ _ (sym c.before.slot_fits.ensures ∙ c.if-not-slot_fits.true))) ∙ s.invariant.2
 
 returns-3 : tie.Need-returns-then-shares invariant-earlier decreases-earlier invariant-slots decreases-slots
 returns-3 c =
     let e = c.before.before.before in
     let f = e.before.before.before in
     let s = f.before.before.before.slots in
-    sym (slots-hit _ _ _ s.k (search rules) (faulty-shares _ _ _ (sym f.before.slot_fits.ensures ∙ not-false _ f.if-not-slot_fits.false)
+    sym (slots-hit _ _ _ s.k (search rules) (faulty-shares _ _ _ (sym f.before.slot_fits.ensures ∙ f.if-not-slot_fits.false)
     (earlier-one _ _ _ e.earlier.j (search rules) (sym c.before.shares.ensures ∙ c.if-shares.true)))) ∙ s.invariant.2
 
 pub first_fault_spec : {M : Type 1} → statement M

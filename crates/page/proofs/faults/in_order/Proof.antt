@@ -1,7 +1,6 @@
 use mathlib.Core.Path.{sym, ◌∙◌}
-use Prim.Native.Nat.{ℕ, ◌-◌}
+use Prim.Native.Nat.{◌-◌}
 use native.Mathlib.Omega.{arith}
-use borrow.Author.Tests.{not-false}
 use borrow.Author.Rules.{rules}
 use Rattle.page.specs.Layout.{body_of}
 use Rattle.page.proofs.Picks.{never}
@@ -30,7 +29,7 @@ loop-again-2 : tie.Need-loop-k-preserved invariant-loop decreases-loop
 loop-again-2 c =
     let f = c.before.before.before in
     let l = f.before.before.before in
-    ordered-tuple _ _ _ (search rules) l.loop-k.invariant _ _ f.before.slot_off-o.ensures.0 f.slot_len-n.ensures.0 (sym c.before.tuple_fits.ensures ∙ not-false _ c.if-not-tuple_fits.false)
+    ordered-tuple _ _ _ (search rules) l.loop-k.invariant _ _ f.before.slot_off-o.ensures.0 f.slot_len-n.ensures.0 (sym c.before.tuple_fits.ensures ∙ c.if-not-tuple_fits.false)
 
 returns-2 : tie.Need-returns invariant-loop decreases-loop
 returns-2 c = λ _. ordered-all _ _ _ c.before.loop-k.k c.before.loop-k.top (omega arith) c.before.loop-k.invariant

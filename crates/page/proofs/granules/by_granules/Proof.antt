@@ -1,6 +1,4 @@
 use mathlib.Core.Path.{refl}
-use borrow.Author.Tests.{not-false}
-use borrow.Author.Rules.{rules}
 use Rattle.page.proofs.Picks.{never}
 use Rattle.page.proofs.GranuleLaws.{granules-sound}
 use Rattle.page.proofs.granules.by_granules.Statement.{statement}
@@ -15,10 +13,10 @@ returns c = never
 lined-requires : tie.Need-lined-requires
 lined-requires c κs =
     let s = c.before.before.before.before.before in
-    ((s.requires.0, s.requires.1), (c.before.before.placed.ensures (not-false _ c.before.if-not-placed.false)).1)
+    ((s.requires.0, s.requires.1), (c.before.before.placed.ensures (c.before.if-not-placed.false)).1)
 
 returns-2 : tie.Need-returns
-returns-2 c = λ e. let i = c.before.before in let f = i.before.placed.ensures (not-false _ i.if1.false) in granules-sound _ _ _ f.0 f.1 (c.lined.ensures e)
+returns-2 c = λ e. let i = c.before.before in let f = i.before.placed.ensures (i.if-not-placed.false) in granules-sound _ _ _ f.0 f.1 (c.lined.ensures e)
 
 pub by_granules_spec : {M : Type 1} → statement M
 by_granules_spec = tie.close (tie.spec placed-requires returns lined-requires returns-2)

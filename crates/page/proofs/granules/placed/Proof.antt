@@ -1,8 +1,7 @@
 use mathlib.Core.Path.{◌≡◌, sym, ◌∙◌}
 use mathlib.Core.Bool.{true}
-use Prim.Native.Nat.{ℕ, ◌-◌, ◌≤◌}
+use Prim.Native.Nat.{◌-◌, ◌≤◌}
 use native.Mathlib.Omega.{arith}
-use borrow.Author.Tests.{not-false}
 use borrow.Author.Rules.{rules}
 use Rattle.page.specs.Layout.{body_bytes, body_of}
 use Rattle.page.specs.Fault.{is_tuple}
@@ -36,9 +35,8 @@ returns : tie.Need-returns-then-not-tuple_fits invariant-loop decreases-loop
 returns c = never
 
 -- slot k holds a tuple
-fits : (c : tie.Else-not-tuple_fits invariant-loop decreases-loop) → let n = c.before.before.before in let a = n.before.before.before.before.before.args in
-    is_tuple (body_of a.page.now) a.end body_bytes n.before.slot_off-o.result n.slot_len-n.result ≡ true
-fits c = sym c.before.tuple_fits.ensures ∙ not-false _ c.if-not-tuple_fits.false
+fits : (c : tie.After-way_told-1 invariant-loop decreases-loop) → is_tuple (body_of c.args.page.now) c.args.end body_bytes c.slot_off-o.result c.slot_len-n.result ≡ true
+fits c = sym c.tuple_fits.ensures ∙ c.if-not-tuple_fits.false
 
 element-copy-out-if3 : tie.Need-bounds-grid-g invariant-loop decreases-loop
 element-copy-out-if3 c = start-in _ _ _ _ (fits c)

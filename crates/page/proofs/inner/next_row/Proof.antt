@@ -7,4 +7,4 @@ next-shown-requires : tie.Need-next_shown-requires
 next-shown-requires c κs = (c.before.before.requires, noted_nothing _ _)
 
 pub next_row_spec : {M : Type 1} → statement M
-next_row_spec = tie.close (tie.spec (λ c. search rules) next-shown-requires (λ c. search rules))
+next_row_spec = tie.close (tie.spec next-shown-requires (λ c. search rules))

@@ -41,13 +41,13 @@ returns : tie.Need-returns-in_default invariant-loop decreases-loop
 returns c =
     let l = c.before.before.before.before.before.loop-i in
     let e = found c.before in
-    e ∙ sym (page-found _ l.i l.k _ _ (search rules) (λ q. not_none _ c.in_default.keys2 (e ∙ q))) ∙ l.invariant
+    e ∙ sym (page-found _ l.i l.k _ _ (search rules) (λ q. not_none _ c.in_default.in_default-own.keys2 (e ∙ q))) ∙ l.invariant
 
 loop-again : tie.Need-loop-i-preserved invariant-loop decreases-loop
 loop-again c =
-    let f = c.before.before in
-    let l = f.before.before.before.before.loop-i in
-    sym (page-passed _ l.i l.k _ _ (search rules) (sym (found f) ∙ c.enum_told-1.given.1)) ∙ l.invariant
+    let f = c.before in
+    let l = c.loop-i in
+    sym (page-passed _ l.i l.k _ _ (search rules) (sym (found f) ∙ c.in-NoMore.is)) ∙ l.invariant
 
 returns-2 : tie.Need-returns invariant-loop decreases-loop
 returns-2 c = sym (pages-done _ c.before.loop-i.i c.before.loop-i.k _ _ (omega arith)) ∙ c.before.loop-i.invariant

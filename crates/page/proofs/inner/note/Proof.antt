@@ -13,7 +13,7 @@ returns : tie.Need-returns-in_default
 returns c = λ e. absurd (omega arith)
 
 returns-2 : tie.Need-returns
-returns-2 c = λ e. page-none _ _ _ (sym c.before.row_on-r.ensures ∙ c.enum_told-1.given.1)
+returns-2 c = λ e. page-none _ _ _ (sym c.before.row_on-r.ensures ∙ c.in-NoMore.is)
 
 pub note_spec : {M : Type 1} → statement M
 note_spec = tie.close (tie.spec row-on-requires (λ c. search rules) returns returns-2)

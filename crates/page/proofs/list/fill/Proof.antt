@@ -1,5 +1,4 @@
-use mathlib.Core.Path.{◌≡◌, refl, sym, ap, ◌∙◌}
-use Prim.Native.Nat.{ℕ, ◌-◌, ◌≤◌}
+use mathlib.Core.Path.{◌≡◌, sym, ap, ◌∙◌}
 use native.Mathlib.Omega.{arith}
 use lib.ListN.{length}
 use borrow.Author.Rules.{rules}
@@ -23,53 +22,49 @@ next-shown-requires : tie.Need-next_shown-next-requires invariant-loop decreases
 next-shown-requires c κs = c.before.before.before.before.requires
 
 -- a row was met
-met : (c : tie.In-At-2 invariant-loop decreases-loop) → let l = c.before.before.before in
-    first_at l.loop-row.i l.loop-row.k (rows_of (shown l.before.before.before.before.args.live) l.before.before.before.before.args.pages.now) ≡ At c.next-1.given.0.0
-met c = sym c.before.before.next_shown-next.ensures ∙ c.next-1.given.1
+met : (c : tie.In-At invariant-loop decreases-loop) → first_at c.loop-row.i c.loop-row.k (rows_of (shown c.args.live) c.args.pages.now) ≡ At c.in-At.row
+met c = sym c.next_shown-next.ensures ∙ c.in-At.is
 
 same_length : tie.Need-shape_of-out-in_default invariant-loop decreases-loop
-same_length c = given-length _ _ _ _ _ c.before.before.before.loop-row.invariant
+same_length c = given-length _ _ _ _ _ c.loop-row.invariant
 
 returns : tie.Need-returns-in_default invariant-loop decreases-loop
 returns c =
-    let n = c.before.before in
-    let e = given-end _ _ _ _ _ n.before.loop-row.invariant (row-none _ _ _ _ _ n.next_shown-next.ensures c.before.in_default.keys2) in
-    (c.row_List.ensures ∙ e.0, e.1)
+    let e = given-end _ _ _ _ _ c.loop-row.invariant (row-none _ _ _ _ _ c.next_shown-next.ensures c.before.in_default.in_default-own.keys2) in
+    (c.row_list.ensures ∙ e.0, e.1)
 
 sub-if1 : tie.Need-overflow_sub-out invariant-loop decreases-loop
-sub-if1 c = let g = c.before.before.before.before.loop-row.invariant in omega (arith, given-length _ _ _ _ _ g, g.room)
+sub-if1 c = let g = c.loop-row.invariant in omega (arith, given-length _ _ _ _ _ g, g.room)
 
 same-length-2 : tie.Need-shape_of-out-then-out-m-lt-ROW_NUMBERS invariant-loop decreases-loop
-same-length-2 c = given-length _ _ _ _ _ c.before.before.before.before.before.loop-row.invariant
+same-length-2 c = given-length _ _ _ _ _ c.loop-row.invariant
 
 returns-2 : tie.Need-returns-then-out-m-lt-ROW_NUMBERS invariant-loop decreases-loop
 returns-2 c =
     let n = c.before.before.before in
-    let g = n.before.before.loop-row.invariant in
+    let g = c.loop-row.invariant in
     let e = given-full _ _ _ _ _ g _ (met n) (omega (arith, given-length _ _ _ _ _ g)) in
     (c.row_list-then-out-m-lt-ROW_NUMBERS.ensures ∙ e.0, e.1)
 
 put-row-requires : tie.Need-put_row-requires invariant-loop decreases-loop
-put-row-requires c κs = let g = c.before.before.before.before.before.before.loop-row.invariant in omega (arith, given-length _ _ _ _ _ g)
+put-row-requires c κs = let g = c.loop-row.invariant in omega (arith, given-length _ _ _ _ _ g)
 
 add-m : tie.Need-overflow_add-m invariant-loop decreases-loop
-add-m c = let g = c.before.before.before.before.before.before.before.before.before.loop-row.invariant in record { fits = omega (arith, given-length _ _ _ _ _ g) }
+add-m c = let g = c.loop-row.invariant in record { fits = omega (arith, given-length _ _ _ _ _ g) }
 
 add-k : tie.Need-overflow_add-k invariant-loop decreases-loop
 add-k c =
-    let n = c.before.before.before.before.before.before.before in
-    let s = n.before.before.before.before.before in
-    record { fits = omega (arith, (row-stands _ (empty s.args.live) _ s.requires.0 _ _ _ (met n)).low) }
+    let n = c.before.before.before.before.before.before in
+    record { fits = omega (arith, (row-stands _ (empty c.args.live) _ c.requires.0 _ _ _ (met n)).low) }
 
 loop-less : tie.Need-loop-row-smaller invariant-loop decreases-loop
-loop-less c = let n = c.before.before.before.before.before.before.before in omega (arith, ap length (row_next _ _ _ _ _ (met n)))
+loop-less c = let n = c.before.before.before.before.before.before in omega (arith, ap length (row_next _ _ _ _ _ (met n)))
 
 loop-again : tie.Need-loop-row-preserved invariant-loop decreases-loop
 loop-again c =
-    let p = c.before.before.before in
-    let n = p.before.before.before.before in
-    let g = n.before.before.before.loop-row.invariant in
-    given-more _ _ _ _ _ g _ _ (met n) (omega (arith, given-length _ _ _ _ _ g)) p.put_row.ensures
+    let n = c.before.before.before.before.before.before in
+    let g = c.loop-row.invariant in
+    given-more _ _ _ _ _ g _ _ (met n) (omega (arith, given-length _ _ _ _ _ g)) c.put_row.ensures
 
 pub fill_spec : {M : Type 1} → statement M
 fill_spec =
