@@ -13,50 +13,50 @@ use Rattle.doublewrite.proofs.Writing.{write-size, write-list, write-short, writ
 use Rattle.doublewrite.proofs.write.Statement.{statement}
 use Rattle.doublewrite.proofs.write.Tie as tie
 
-returns : tie.Need-returns
-returns c = let w = c.before.before in write-size _ _ _ _ (sym w.size-wrong.ensures ∙ c.before.if1.true) c.refusal.ensures
+returns : tie.Need-returns-then-size_wrong
+returns c = let w = c.before.before in write-size _ _ _ _ (sym w.size_wrong.ensures ∙ c.before.if-size_wrong.true) c.refusal.ensures
 
-returns-2 : tie.Need-returns-2
+returns-2 : tie.Need-returns-then-not-rising
 returns-2 c =
     let r = c.before.before in
     let e = r.before in
-    write-list _ _ _ _ (sym e.before.size-wrong.ensures ∙ e.if1.false) (sym r.rising.ensures ∙ not-true _ c.before.if2.true) c.refusal2.ensures
+    write-list _ _ _ _ (sym e.before.size_wrong.ensures ∙ e.if-size_wrong.false) (sym r.rising.ensures ∙ not-true _ c.before.if-not-rising.true) c.refusal-then-not-rising.ensures
 
 -- the list names lent pages, which are few
-named : (c : tie.Else2) → let a = c.before.before.before.before.before.before.before.before.args in rises 0 (pages_in a.pages.now) a.list.now ≡ true
-named c = sym c.before.rising.ensures ∙ not-false _ c.if2.false
+named : (c : tie.Else-not-rising) → let a = c.before.before.before.before.before.before.before.before.args in rises 0 (pages_in a.pages.now) a.list.now ≡ true
+named c = sym c.before.rising.ensures ∙ not-false _ c.if-not-rising.false
 
-few : (c : tie.Else2) → let a = c.before.before.before.before.before.before.before.before.args in length a.list.now ≤ page_limit
+few : (c : tie.Else-not-rising) → let a = c.before.before.before.before.before.before.before.before.args in length a.list.now ≤ page_limit
 few c =
     let e = c.before.before in
     let a = e.before.before.before.before.before.before.args in
-    omega (arith, rise-length 0 (pages_in a.pages.now) a.list.now (named c) (omega arith), (right-size a.pages.now (sym e.before.size-wrong.ensures ∙ e.if1.false)).1)
+    omega (arith, rise-length 0 (pages_in a.pages.now) a.list.now (named c) (omega arith), (right-size a.pages.now (sym e.before.size_wrong.ensures ∙ e.if-size_wrong.false)).1)
 
-file-bytes-requires : tie.Need-file-bytes-requires
+file-bytes-requires : tie.Need-file_bytes-need-requires
 file-bytes-requires c κs = omega (arith, few c)
 
-returns-3 : tie.Need-returns-3
+returns-3 : tie.Need-returns-then-area-need
 returns-3 c =
     let b = c.before.before in
     let d = b.before in
     let e = d.before.before in
-    write-short _ _ _ _ (sym e.before.size-wrong.ensures ∙ e.if1.false) (named d) b.file-bytes.result b.file-bytes.ensures c.before.if3.true c.refusal3.ensures
+    write-short _ _ _ _ (sym e.before.size_wrong.ensures ∙ e.if-size_wrong.false) (named d) b.file_bytes-need.result b.file_bytes-need.ensures c.before.if-area-need.true c.refusal-then-area-need.ensures
 
-put-file-requires : tie.Need-put-file-requires
+put-file-requires : tie.Need-put_file-requires
 put-file-requires c κs =
     let f = c.before.before in
     let b = f.before in
     let d = b.before in
-    (d.before.before.before.before.tables.ensures, (named d, omega (arith, few d), omega (arith, b.file-bytes.ensures, f.if3.false)))
+    (d.before.before.before.before.tables-t.ensures, (named d, omega (arith, few d), omega (arith, b.file_bytes-need.ensures, f.if-area-need.false)))
 
-returns-4 : tie.Need-returns-4
+returns-4 : tie.Need-returns
 returns-4 c =
     let p = c.before.before.before in
     let f = p.before.before.before in
     let b = f.before in
     let d = b.before in
     let e = d.before.before in
-    write_done _ _ _ _ (sym e.before.size-wrong.ensures ∙ e.if1.false) (named d) b.file-bytes.result _ b.file-bytes.ensures f.if3.false c.refusal4.ensures p.put-file.ensures
+    write_done _ _ _ _ (sym e.before.size_wrong.ensures ∙ e.if-size_wrong.false) (named d) b.file_bytes-need.result _ b.file_bytes-need.ensures f.if-area-need.false c.refusal-2.ensures p.put_file.ensures
 
 pub write_spec : {M : Type 1} → statement M
 write_spec =

@@ -10,7 +10,7 @@ use Rattle.doublewrite.proofs.file.ended.Tie as tie
 returns : tie.Need-returns
 unfolding is_marked
 returns c =
-    ap (λ (n : ℕ). eqb n mark) (c.u32-at.ensures ∙ ap (λ (n : ℕ). number_at 4 (n + 4) c.before.before.before.args.file.now) c.before.slot-place.ensures)
+    ap (λ (n : ℕ). eqb n mark) (c.u32_at.ensures ∙ ap (λ (n : ℕ). number_at 4 (n + 4) c.before.before.before.args.file.now) c.before.slot_place.ensures)
 
-pub ended-spec : {M : Type 1} → statement M
-ended-spec = tie.close (tie.spec (λ c κs. search rules) (λ c. search rules) (λ c κs. search rules) returns)
+pub ended_spec : {M : Type 1} → statement M
+ended_spec = tie.close (tie.spec (λ c κs. search rules) (λ c. search rules) (λ c κs. search rules) returns)

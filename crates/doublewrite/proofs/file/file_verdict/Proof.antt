@@ -6,66 +6,66 @@ use Rattle.doublewrite.proofs.FileLaws.{headed-size, headed-least, case-header, 
 use Rattle.doublewrite.proofs.file.file_verdict.Statement.{statement}
 use Rattle.doublewrite.proofs.file.file_verdict.Tie as tie
 
-returns : tie.Need-returns
-returns c = c.refusal.ensures ∙ case-header _ _ (sym c.before.before.headed.ensures ∙ not-true _ c.before.if1.true)
+returns : tie.Need-returns-then-not-headed
+returns c = c.refusal.ensures ∙ case-header _ _ (sym c.before.before.headed.ensures ∙ not-true _ c.before.if-not-headed.true)
 
-count-requires : tie.Need-count-requires
-count-requires c κs = headed-least _ (sym c.before.headed.ensures ∙ not-false _ c.if1.false)
+count-requires : tie.Need-count-n-requires
+count-requires c κs = headed-least _ (sym c.before.headed.ensures ∙ not-false _ c.if-not-headed.false)
 
 summed-requires : tie.Need-summed-requires
 summed-requires c κs =
     let i = c.before in
-    (i.before.before.before.requires.0, (c.count.ensures.1, headed-size _ (sym i.before.headed.ensures ∙ not-false _ i.if1.false) ∙ ap file_bytes (sym c.count.ensures.0)))
+    (i.before.before.before.requires.0, (c.count-n.ensures.1, headed-size _ (sym i.before.headed.ensures ∙ not-false _ i.if-not-headed.false) ∙ ap file_bytes (sym c.count-n.ensures.0)))
 
-returns-2 : tie.Need-returns-2
+returns-2 : tie.Need-returns-then-not-summed
 returns-2 c =
     let s = c.before.before in
     let n = s.before in
     let i = n.before in
-    c.refusal2.ensures ∙ case-sum _ _ (sym i.before.headed.ensures ∙ not-false _ i.if1.false) n.count.result n.count.ensures.0 (sym s.summed.ensures ∙ not-true _ c.before.if2.true)
+    c.refusal-then-not-summed.ensures ∙ case-sum _ _ (sym i.before.headed.ensures ∙ not-false _ i.if-not-headed.false) n.count-n.result n.count-n.ensures.0 (sym s.summed.ensures ∙ not-true _ c.before.if-not-summed.true)
 
 ended-requires : tie.Need-ended-requires
 ended-requires c κs =
     let n = c.before.before in
     let i = n.before in
-    (n.count.ensures.1, headed-size _ (sym i.before.headed.ensures ∙ not-false _ i.if1.false) ∙ ap file_bytes (sym n.count.ensures.0))
+    (n.count-n.ensures.1, headed-size _ (sym i.before.headed.ensures ∙ not-false _ i.if-not-headed.false) ∙ ap file_bytes (sym n.count-n.ensures.0))
 
-returns-3 : tie.Need-returns-3
+returns-3 : tie.Need-returns-then-not-ended
 returns-3 c =
     let m = c.before.before in
     let s = m.before.before in
     let n = s.before in
     let i = n.before in
-    c.refusal3.ensures
-    ∙ case-mark _ _ (sym i.before.headed.ensures ∙ not-false _ i.if1.false) n.count.result n.count.ensures.0 (sym s.summed.ensures ∙ not-false _ m.before.if2.false) (sym m.ended.ensures ∙ not-true _ c.before.if3.true)
+    c.refusal-then-not-ended.ensures
+    ∙ case-mark _ _ (sym i.before.headed.ensures ∙ not-false _ i.if-not-headed.false) n.count-n.result n.count-n.ensures.0 (sym s.summed.ensures ∙ not-false _ m.before.if-not-summed.false) (sym m.ended.ensures ∙ not-true _ c.before.if-not-ended.true)
 
-ids-fit-requires : tie.Need-ids-fit-requires
+ids-fit-requires : tie.Need-ids_fit-requires
 ids-fit-requires c κs =
     let n = c.before.before.before.before in
     let i = n.before in
-    (n.count.ensures.1, headed-size _ (sym i.before.headed.ensures ∙ not-false _ i.if1.false) ∙ ap file_bytes (sym n.count.ensures.0), i.before.before.before.requires.1)
+    (n.count-n.ensures.1, headed-size _ (sym i.before.headed.ensures ∙ not-false _ i.if-not-headed.false) ∙ ap file_bytes (sym n.count-n.ensures.0), i.before.before.before.requires.1)
 
-returns-4 : tie.Need-returns-4
+returns-4 : tie.Need-returns-then-not-ids_fit
 returns-4 c =
     let d = c.before.before in
     let m = d.before.before in
     let s = m.before.before in
     let n = s.before in
     let i = n.before in
-    c.refusal4.ensures
-    ∙ case-ids _ _ (sym i.before.headed.ensures ∙ not-false _ i.if1.false) n.count.result n.count.ensures.0 (sym s.summed.ensures ∙ not-false _ m.before.if2.false) (sym m.ended.ensures ∙ not-false _ d.before.if3.false) (sym d.ids-fit.ensures ∙ not-true _ c.before.if4.true)
+    c.refusal-then-not-ids_fit.ensures
+    ∙ case-ids _ _ (sym i.before.headed.ensures ∙ not-false _ i.if-not-headed.false) n.count-n.result n.count-n.ensures.0 (sym s.summed.ensures ∙ not-false _ m.before.if-not-summed.false) (sym m.ended.ensures ∙ not-false _ d.before.if-not-ended.false) (sym d.ids_fit.ensures ∙ not-true _ c.before.if-not-ids_fit.true)
 
-returns-5 : tie.Need-returns-5
+returns-5 : tie.Need-returns
 returns-5 c =
     let d = c.before.before in
     let m = d.before.before in
     let s = m.before.before in
     let n = s.before in
     let i = n.before in
-    c.refusal5.ensures
-    ∙ case-fine _ _ (sym i.before.headed.ensures ∙ not-false _ i.if1.false) n.count.result n.count.ensures.0 (sym s.summed.ensures ∙ not-false _ m.before.if2.false) (sym m.ended.ensures ∙ not-false _ d.before.if3.false) (sym d.ids-fit.ensures ∙ not-false _ c.before.if4.false)
+    c.refusal-2.ensures
+    ∙ case-fine _ _ (sym i.before.headed.ensures ∙ not-false _ i.if-not-headed.false) n.count-n.result n.count-n.ensures.0 (sym s.summed.ensures ∙ not-false _ m.before.if-not-summed.false) (sym m.ended.ensures ∙ not-false _ d.before.if-not-ended.false) (sym d.ids_fit.ensures ∙ not-false _ c.before.if-not-ids_fit.false)
 
-pub file-verdict-spec : {M : Type 1} → statement M
-file-verdict-spec =
+pub file_verdict_spec : {M : Type 1} → statement M
+file_verdict_spec =
     tie.close
     (tie.spec (λ c κs. search rules) (λ c κs. search rules) returns count-requires summed-requires (λ c κs. search rules) returns-2 ended-requires (λ c κs. search rules) returns-3 ids-fit-requires (λ c κs. search rules) returns-4 (λ c κs. search rules) returns-5)

@@ -6,7 +6,7 @@ use Rattle.doublewrite.proofs.file.id_at.Statement.{statement}
 use Rattle.doublewrite.proofs.file.id_at.Tie as tie
 
 returns : tie.Need-returns
-returns c = c.u64-at.ensures ∙ ap (λ (n : ℕ). number_at 8 n c.before.before.before.args.file.now) c.before.slot-place.ensures
+returns c = c.u64_at.ensures ∙ ap (λ (n : ℕ). number_at 8 n c.before.before.before.args.file.now) c.before.slot_place.ensures
 
-pub id-at-spec : {M : Type 1} → statement M
-id-at-spec = tie.close (tie.spec (λ c κs. search rules) (λ c κs. search rules) returns)
+pub id_at_spec : {M : Type 1} → statement M
+id_at_spec = tie.close (tie.spec (λ c κs. search rules) (λ c κs. search rules) returns)

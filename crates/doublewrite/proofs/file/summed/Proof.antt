@@ -11,7 +11,7 @@ use Rattle.doublewrite.specs.File.{is_summed}
 use Rattle.doublewrite.proofs.file.summed.Statement.{statement}
 use Rattle.doublewrite.proofs.file.summed.Tie as tie
 
-slice-aggregate-crc32c : tie.Need-slice-aggregate-crc32c
+slice-aggregate-crc32c : tie.Need-slice_bounds-crc32c-end
 slice-aggregate-crc32c c = let s = c.before.before in sym (length-take-le s.slot-place.result s.before.before.args.file.now (omega arith))
 
 returns : tie.Need-returns
@@ -20,8 +20,8 @@ returns c =
     let s = c.before.before.before in
     let f = s.before.before.args.file.now in
     ap₂ eqb
-    (c.before.before.u32-at.ensures ∙ ap (λ (n : ℕ). number_at 4 n f) s.slot-place.ensures)
-    (c.crc32c.ensures ∙ ap (λ (n : ℕ). crc32c (take n f)) s.slot-place.ensures)
+    (c.before.before.u32_at.ensures ∙ ap (λ (n : ℕ). number_at 4 n f) s.slot_place-e.ensures)
+    (c.crc32c.ensures ∙ ap (λ (n : ℕ). crc32c (take n f)) s.slot_place-e.ensures)
 
-pub summed-spec : {M : Type 1} → statement M
-summed-spec = tie.close (tie.spec (λ c κs. search rules) (λ c κs. search rules) slice-aggregate-crc32c (λ c κs. search rules) returns)
+pub summed_spec : {M : Type 1} → statement M
+summed_spec = tie.close (tie.spec (λ c κs. search rules) (λ c κs. search rules) slice-aggregate-crc32c (λ c κs. search rules) returns)

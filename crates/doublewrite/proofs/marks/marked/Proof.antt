@@ -7,5 +7,5 @@ returns : tie.Need-returns
 unfolding bit_at
 returns c = search rules
 
-pub marked-spec : {M : Type 1} → statement M
-marked-spec = tie.close (tie.spec (λ c. search rules) (λ c. search rules) (λ c. search rules) returns)
+pub marked_spec : {M : Type 1} → statement M
+marked_spec = tie.close (tie.spec (λ c. search rules) (λ c. search rules) (λ c. search rules) returns)

@@ -11,15 +11,15 @@ use Rattle.doublewrite.proofs.Slots.{left-whole, left-bad, left-restored, copy-p
 use Rattle.doublewrite.proofs.restore.restore_page.Statement.{statement}
 use Rattle.doublewrite.proofs.restore.restore_page.Tie as tie
 
-returns : tie.Need-returns
+returns : tie.Need-returns-then-not-torn
 returns c =
     let t = c.before in
     let d = t.before.before.before in
     let a = d.before.before.before.args in
-    left-whole a.magic d.id-at.result (id_at a.file.now a.k) d.id-at.ensures a.pages.now (copy_at a.file.now a.k)
-    (sym t.torn.ensures ∙ not-true _ c.if1.true)
+    left-whole a.magic d.id_at-id.result (id_at a.file.now a.k) d.id_at-id.ensures a.pages.now (copy_at a.file.now a.k)
+    (sym t.torn.ensures ∙ not-true _ c.if-not-torn.true)
 
-returns-2 : tie.Need-returns-2
+returns-2 : tie.Need-returns-then-not-good
 returns-2 c =
     let g = c.before in
     let p = g.before.before in
@@ -28,10 +28,10 @@ returns-2 c =
     let d = t.before.before.before in
     let a = d.before.before.before.args in
     let f = a.file.now in
-    left-bad a.magic d.id-at.result (id_at f a.k) d.id-at.ensures a.pages.now (copy_at f a.k) (sym t.torn.ensures ∙ not-false _ e.if1.false)
-    (ap (is_good a.magic d.id-at.result) (sym (copy-part f a.k p.slot-place.result p.slot-place.ensures)) ∙ sym g.good2.ensures ∙ not-true _ c.if2.true)
+    left-bad a.magic d.id_at-id.result (id_at f a.k) d.id_at-id.ensures a.pages.now (copy_at f a.k) (sym t.torn.ensures ∙ not-false _ e.if-not-torn.false)
+    (ap (is_good a.magic d.id_at-id.result) (sym (copy-part f a.k p.slot_place-p.result p.slot_place-p.ensures)) ∙ sym g.good2.ensures ∙ not-true _ c.if-not-good.true)
 
-returns-3 : tie.Need-returns-3
+returns-3 : tie.Need-returns
 returns-3 c =
     let s = c.before.before in
     let h = s.before.before.before in
@@ -42,12 +42,12 @@ returns-3 c =
     let d = t.before.before.before in
     let a = d.before.before.before.args in
     let f = a.file.now in
-    let z = copy-part f a.k p.slot-place.result p.slot-place.ensures in
-    left-restored a.magic d.id-at.result (id_at f a.k) d.id-at.ensures a.pages.now (copy_at f a.k) (sym t.torn.ensures ∙ not-false _ e.if1.false) _
-    (ap (is_good a.magic d.id-at.result) (sym z) ∙ sym g.good2.ensures ∙ not-false _ h.if2.false)
-    (s.store.ensures ∙ ap (λ (q : List ℕ). paste a.pages.now (d.id-at.result * page_bytes) q page_bytes) z)
+    let z = copy-part f a.k p.slot_place-p.result p.slot_place-p.ensures in
+    left-restored a.magic d.id_at-id.result (id_at f a.k) d.id_at-id.ensures a.pages.now (copy_at f a.k) (sym t.torn.ensures ∙ not-false _ e.if-not-torn.false) _
+    (ap (is_good a.magic d.id_at-id.result) (sym z) ∙ sym g.good2.ensures ∙ not-false _ h.if-not-good.false)
+    (s.store.ensures ∙ ap (λ (q : List ℕ). paste a.pages.now (d.id_at-id.result * page_bytes) q page_bytes) z)
 
-pub restore-page-spec : {M : Type 1} → statement M
-restore-page-spec =
+pub restore_page_spec : {M : Type 1} → statement M
+restore_page_spec =
     tie.close
     (tie.spec (λ c κs. search rules) (λ c. search rules) (λ c. search rules) (λ c. search rules) (λ c. search rules) (λ c. search rules) (λ c κs. search rules) (λ c. search rules) returns (λ c κs. search rules) (λ c. search rules) (λ c. search rules) (λ c. search rules) (λ c. search rules) (λ c. search rules) (λ c κs. search rules) (λ c. search rules) returns-2 (λ c. search rules) (λ c. search rules) (λ c. search rules) (λ c κs. search rules) (λ c. search rules) returns-3)

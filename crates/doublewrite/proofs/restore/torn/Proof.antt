@@ -8,7 +8,7 @@ use Rattle.doublewrite.proofs.restore.torn.Tie as tie
 
 returns : tie.Need-returns
 unfolding is_torn
-returns c = ap not (ap₂ eqb c.before.u32-at.ensures c.checksum.ensures)
+returns c = ap not (ap₂ eqb c.before.u32_at.ensures c.checksum.ensures)
 
-pub torn-spec : {M : Type 1} → statement M
-torn-spec = tie.close (tie.spec (λ c κs. search rules) (λ c κs. search rules) returns)
+pub torn_spec : {M : Type 1} → statement M
+torn_spec = tie.close (tie.spec (λ c κs. search rules) (λ c κs. search rules) returns)

@@ -13,7 +13,7 @@ returns c =
     let s = c1.before.before.before.before.before in
     let a = s.args in
     let r = s.requires.1 in
-    file-stored a.area.now _ _ _ a.pages.now a.list.now (λ k h. (rise-each 0 (pages_in a.pages.now) a.list.now r.0 k h).1) r.2 c1.put-header.ensures c2.put-slots.ensures c3.put-footer.ensures
+    file-stored a.area.now _ _ _ a.pages.now a.list.now (λ k h. (rise-each 0 (pages_in a.pages.now) a.list.now r.0 k h).1) r.2 c1.put_header.ensures c2.put_slots.ensures c3.put_footer.ensures
 
-pub put-file-spec : {M : Type 1} → statement M
-put-file-spec = tie.close (tie.spec (λ c κs. search rules) (λ c κs. search rules) (λ c κs. search rules) (λ c. search rules) returns)
+pub put_file_spec : {M : Type 1} → statement M
+put_file_spec = tie.close (tie.spec (λ c κs. search rules) (λ c κs. search rules) (λ c κs. search rules) (λ c. search rules) returns)

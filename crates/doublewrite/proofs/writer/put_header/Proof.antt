@@ -9,8 +9,8 @@ returns c =
     let c2 = c3.before.before.before.before in
     let c1 = c2.before.before.before.before in
     let s = c1.before.before.before in
-    header-stored s.args.area.now _ _ _ s.args.n s.requires.1 c1.put-u64.ensures c2.put-u32.ensures c3.put-u322.ensures
+    header-stored s.args.area.now _ _ _ s.args.n s.requires.1 c1.put_u64.ensures c2.put_u32.ensures c3.put_u32-2.ensures
 
-pub put-header-spec : {M : Type 1} → statement M
-put-header-spec =
+pub put_header_spec : {M : Type 1} → statement M
+put_header_spec =
     tie.close (tie.spec (λ c κs. search rules) (λ c κs. search rules) (λ c. search rules) (λ c κs. search rules) (λ c. search rules) returns)

@@ -26,40 +26,40 @@ module _ (t : ℕ) where
   in_area : (c : lts.Start (below t, put-number.Post) (given t) put-number.Post) → c.args.at < length c.args.area.now
   in_area c = let a = c.args in put_in a.area.now a.at a.n c.requires.1
 
-  same_length : lts.Need-same-length (below t, put-number.Post) (given t) put-number.Post
+  same_length : lts.Need-shape_of-area-then-n-lt128 (below t, put-number.Post) (given t) put-number.Post
   same_length c = simp length-set
 
-  returns : lts.Need-returns (below t, put-number.Post) (given t) put-number.Post
-  returns c = let s = c.before.before in put_last s.args.area.now s.args.at s.args.n s.requires.1 c.if1.true
+  returns : lts.Need-returns-then-n-lt128 (below t, put-number.Post) (given t) put-number.Post
+  returns c = let s = c.before.before in put_last s.args.area.now s.args.at s.args.n s.requires.1 c.if-n-lt128.true
 
   -- one group more
-  longer : (c : lts.Else1 (below t, put-number.Post) (given t) put-number.Post) → length (groups c.before.before.args.n) ≡ 1 + length (groups (c.before.before.args.n / 128))
-  longer c = omega (arith, ap length (groups-more c.before.before.args.n c.if1.false))
+  longer : (c : lts.Else-n-lt128 (below t, put-number.Post) (given t) put-number.Post) → length (groups c.before.before.args.n) ≡ 1 + length (groups (c.before.before.args.n / 128))
+  longer c = omega (arith, ap length (groups-more c.before.before.args.n c.if-n-lt128.false))
 
-  put-number-requires : lts.Need-put-number-requires (below t, put-number.Post) (given t) put-number.Post
+  put-number-requires : lts.Need-put_number-requires (below t, put-number.Post) (given t) put-number.Post
   put-number-requires c κs =
       let s = c.before.before.before in
-      (omega (arith, s.requires.0, c.before.if1.false), simp length-set (omega (arith, s.requires.1, longer c.before)))
+      (omega (arith, s.requires.0, c.before.if-n-lt128.false), simp length-set (omega (arith, s.requires.1, longer c.before)))
 
-  same-length-2 : lts.Need-same-length-2 (below t, put-number.Post) (given t) put-number.Post
-  same-length-2 c = c.before.before.put-number.auto.0 ∙ simp length-set
+  same-length-2 : lts.Need-shape_of-area (below t, put-number.Post) (given t) put-number.Post
+  same-length-2 c = c.before.before.put_number.auto.area ∙ simp length-set
 
-  returns-2 : lts.Need-returns-2 (below t, put-number.Post) (given t) put-number.Post
+  returns-2 : lts.Need-returns (below t, put-number.Post) (given t) put-number.Post
   returns-2 c =
-      let p = c.before.before.put-number.ensures in
+      let p = c.before.before.put_number.ensures in
       let i = c.before.before.before.before in
       let s = i.before.before in
-      (omega (arith, p.0, longer i), p.1 ∙ put-more s.args.area.now s.args.at s.args.n s.requires.1 i.if1.false)
+      (omega (arith, p.0, longer i), p.1 ∙ put-more s.args.area.now s.args.at s.args.n s.requires.1 i.if-n-lt128.false)
 
-pub +put-number-spec : {M : Type 1} → statement M
-+put-number-spec =
+pub +put_number_spec : {M : Type 1} → statement M
++put_number_spec =
     close μ λ t. lts.spec
     (below t, put-number.Post)
     (given t)
     put-number.Post
     (λ c. record { fits = omega arith })
     (λ c. in_area t c.before.before)
-    (λ c. record { fits = omega (arith, in_area t c.before.before, c.before.before.well-formed.0.0) })
+    (λ c. record { fits = omega (arith, in_area t c.before.before, c.before.before.well_formed.0.0) })
     (same_length t)
     (returns t)
     (λ c. record { fits = omega arith })

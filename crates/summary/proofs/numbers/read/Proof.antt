@@ -7,37 +7,37 @@ use Rattle.summary.proofs.numbers.read.Statement.{statement}
 use Rattle.summary.proofs.numbers.read.Tie as tie
 use Rattle.summary.specs.Inner.{Ends}
 
-bytes : (c : tie.After-shared-slice-known) → Bytes c.before.args.file.now
-bytes c = record { at = λ i. (c.shared-slice-known.given i).fits }
+bytes : (c : tie.After-shared_slice_known-1) → Bytes c.before.args.file.now
+bytes c = record { at = λ i. (c.shared_slice_known-1.given i).fits }
 
 -- the last group is there
-ends : (c : tie.Else1) → let s = c.before.before.before in Ends s.args.file.now s.args.at c.before.last-group.result
-ends c = record { at = c.before.last-group.ensures; within = c.if1.false }
+ends : (c : tie.Else-file-end) → let s = c.before.before.before in Ends s.args.file.now s.args.at c.before.last_group-end.result
+ends c = record { at = c.before.last_group-end.ensures; within = c.if-file-end.false }
 
-returns : tie.Need-returns
+returns : tie.Need-returns-then-file-end
 returns c =
     let g = c.before.before in
-    c.refused.ensures ∙ read-early _ _ g.last-group.result g.last-group.ensures c.before.if1.true
+    c.refused.ensures ∙ read-early _ _ g.last_group-end.result g.last_group-end.ensures c.before.if-file-end.true
 
-returns-2 : tie.Need-returns-2
+returns-2 : tie.Need-returns-then-is_misspelt
 returns-2 c =
     let m = c.before.before in
     let i = m.before in
-    c.refused2.ensures ∙ read-misspelt _ _ _ (bytes i.before.before) (ends i) (sym m.is-misspelt.ensures ∙ c.before.if2.true)
+    c.refused-then-is_misspelt.ensures ∙ read-misspelt _ _ _ (bytes i.before.before) (ends i) (sym m.is_misspelt.ensures ∙ c.before.if-is_misspelt.true)
 
 value-requires : tie.Need-value-requires
 value-requires c κs =
     let m = c.before in
     let i = m.before in
-    (ends i, value-fits _ _ _ (bytes i.before.before) (ends i) (sym m.is-misspelt.ensures ∙ c.if2.false))
+    (ends i, value-fits _ _ _ (bytes i.before.before) (ends i) (sym m.is_misspelt.ensures ∙ c.if-is_misspelt.false))
 
-returns-3 : tie.Need-returns-3
+returns-3 : tie.Need-returns
 returns-3 c =
     let j = c.before in
     let m = j.before in
     let i = m.before in
-    ap (λ (v : ℕ). taken v (i.before.last-group.result + 1)) c.value.ensures
-    ∙ read-well _ _ _ (bytes i.before.before) (ends i) (sym m.is-misspelt.ensures ∙ j.if2.false)
+    ap (λ (v : ℕ). taken v (i.before.last_group-end.result + 1)) c.value.ensures
+    ∙ read-well _ _ _ (bytes i.before.before) (ends i) (sym m.is_misspelt.ensures ∙ j.if-is_misspelt.false)
 
 pub read_spec : {M : Type 1} → statement M
 read_spec =

@@ -7,15 +7,15 @@ use Rattle.summary.proofs.Answers.{head-none, head-taken}
 use Rattle.summary.proofs.reader.head.Statement.{statement}
 use Rattle.summary.proofs.reader.head.Tie as tie
 
-returns : tie.Need-returns
+returns : tie.Need-returns-then-e-ne0
 returns c =
     let v = c.before in
     let i = v.before in
     let r = i.before.before in
     let f = r.before.before.args.file.now in
-    c.no-summary.ensures ∙ head-none f v.verdict.result (head_verdict f) _ _ v.verdict.ensures (first-refused edition_rule (λ n. any_number) any_number f 0 r.edition.result r.edition.ensures i.if1.true) i.if1.true
+    c.no_summary.ensures ∙ head-none f v.verdict.result (head_verdict f) _ _ v.verdict.ensures (first-refused edition_rule (λ n. any_number) any_number f 0 r.edition-e.result r.edition-e.ensures i.if-e-ne0.true) i.if-e-ne0.true
 
-returns-2 : tie.Need-returns-2
+returns-2 : tie.Need-returns-then-l-ne0
 returns-2 c =
     let v = c.before in
     let j = v.before in
@@ -23,10 +23,10 @@ returns-2 c =
     let i = q.before in
     let r = i.before.before in
     let f = r.before.before.args.file.now in
-    c.no-summary2.ensures
-    ∙ head-none f v.verdict2.result (head_verdict f) _ _ v.verdict2.ensures (second-refused edition_rule (λ n. any_number) any_number f 0 r.edition.result r.edition.ensures i.if1.false q.read.result q.read.ensures j.if2.true) j.if2.true
+    c.no_summary-then-l-ne0.ensures
+    ∙ head-none f v.verdict-then-l-ne0.result (head_verdict f) _ _ v.verdict-then-l-ne0.ensures (second-refused edition_rule (λ n. any_number) any_number f 0 r.edition-e.result r.edition-e.ensures i.if-e-ne0.false q.read-l.result q.read-l.ensures j.if-l-ne0.true) j.if-l-ne0.true
 
-returns-3 : tie.Need-returns-3
+returns-3 : tie.Need-returns-then-c-ne0
 returns-3 c =
     let v = c.before in
     let k = v.before in
@@ -36,10 +36,10 @@ returns-3 c =
     let i = q.before in
     let r = i.before.before in
     let f = r.before.before.args.file.now in
-    c.no-summary3.ensures
-    ∙ head-none f v.verdict3.result (head_verdict f) _ _ v.verdict3.ensures (third-refused edition_rule (λ n. any_number) any_number f 0 r.edition.result r.edition.ensures i.if1.false q.read.result q.read.ensures j.if2.false u.read2.result u.read2.ensures k.if3.true) k.if3.true
+    c.no_summary-then-c-ne0.ensures
+    ∙ head-none f v.verdict-then-c-ne0.result (head_verdict f) _ _ v.verdict-then-c-ne0.ensures (third-refused edition_rule (λ n. any_number) any_number f 0 r.edition-e.result r.edition-e.ensures i.if-e-ne0.false q.read-l.result q.read-l.ensures j.if-l-ne0.false u.read-c.result u.read-c.ensures k.if-c-ne0.true) k.if-c-ne0.true
 
-returns-4 : tie.Need-returns-4
+returns-4 : tie.Need-returns
 returns-4 c =
     let k = c.before in
     let u = k.before.before in
@@ -48,8 +48,8 @@ returns-4 c =
     let i = q.before in
     let r = i.before.before in
     let f = r.before.before.args.file.now in
-    let t = taken edition_rule (λ n. any_number) any_number f 0 r.edition.result r.edition.ensures i.if1.false q.read.result q.read.ensures j.if2.false u.read2.result u.read2.ensures k.if3.false in
-    head-taken f c.verdict4.result _ _ _ c.verdict4.ensures t.verdict-is t.value₂ t.value₃ t.after₃
+    let t = taken edition_rule (λ n. any_number) any_number f 0 r.edition-e.result r.edition-e.ensures i.if-e-ne0.false q.read-l.result q.read-l.ensures j.if-l-ne0.false u.read-c.result u.read-c.ensures k.if-c-ne0.false in
+    head-taken f c.verdict-2.result _ _ _ c.verdict-2.ensures t.verdict-is t.value₂ t.value₃ t.after₃
 
 pub head_spec : {M : Type 1} → statement M
 head_spec =

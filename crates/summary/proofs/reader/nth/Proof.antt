@@ -9,32 +9,32 @@ use Rattle.summary.proofs.Answers.{nth-more, nth_last}
 use Rattle.summary.proofs.reader.nth.Statement.{statement}
 use Rattle.summary.proofs.reader.nth.Tie as tie
 
-abbrev invariant-loop : tie.invariant-loop
+abbrev invariant-loop : tie.invariant-loop-left
 invariant-loop file first n left₀ at₀ left at = get_or (step_rows (suc left) file at) left no_row ≡ get_or (step_rows (suc n) file first) n no_row
 
-abbrev decreases-loop : tie.decreases-loop
+abbrev decreases-loop : tie.decreases-loop-left
 decreases-loop file first n left₀ at₀ left at = left
 
-loop-again : tie.Need-loop-preserved invariant-loop decreases-loop
+loop-again : tie.Need-loop-left-preserved invariant-loop decreases-loop
 loop-again c =
     let m = c.before.before in
-    let l = m.loop in
+    let l = m.loop-left in
     let f = m.before.before.args.file.now in
-    ap (λ (s : SummaryStep). get_or (step_rows (suc (l.left - 1)) f s.after) (l.left - 1) no_row) c.step.ensures
-    ∙ sym (nth-more f l.at l.left c.before.loop-test.true)
+    ap (λ (s : SummaryStep). get_or (step_rows (suc (l.left - 1)) f s.after) (l.left - 1) no_row) c.step-s.ensures
+    ∙ sym (nth-more f l.at l.left c.before.loop-left-test.true)
     ∙ l.invariant
 
 returns : tie.Need-returns invariant-loop decreases-loop
 returns c =
     let s = c.before in
     let m = s.before.before in
-    let l = m.loop in
-    ap (λ (s : SummaryStep). s.row) s.step2.ensures
-    ∙ sym (nth_last m.before.before.args.file.now l.at l.left (omega (arith, s.before.loop-test.false)))
+    let l = m.loop-left in
+    ap (λ (s : SummaryStep). s.row) s.step-s-2.ensures
+    ∙ sym (nth_last m.before.before.args.file.now l.at l.left (omega (arith, s.before.loop-left-test.false)))
     ∙ l.invariant
 
-pub nth-spec : {M : Type 1} → statement M
-nth-spec =
+pub nth_spec : {M : Type 1} → statement M
+nth_spec =
     tie.close
     (tie.spec
     invariant-loop

@@ -5,5 +5,5 @@ use Rattle.summary.proofs.reader.stays.Tie as tie
 returns : tie.Need-returns
 returns c = rw c.no_row.ensures
 
-pub stays-spec : {M : Type 1} → statement M
-stays-spec = tie.close (tie.spec (λ c κs. search rules) returns)
+pub stays_spec : {M : Type 1} → statement M
+stays_spec = tie.close (tie.spec (λ c κs. search rules) returns)

@@ -5,11 +5,11 @@ use Rattle.summary.proofs.writer.put_file.Tie as tie
 
 returns : tie.Need-returns
 returns c =
-    let r = c.before.before.put-rows in
+    let r = c.before.before.put_rows in
     let p = c.before.before.before.before.before.before in
-    let h = p.put-head in
+    let h = p.put_head-first in
     let s = p.before.before.before.before.before in
-    file-put s.args.pages.now s.args.area.now h.new.0 r.new.1.1.0 s.args.lsn.0 s.args.rows h.result s.requires.1.0 s.requires.1.1.0 h.ensures.1 h.ensures.0 r.ensures
+    file-put s.args.pages.now s.args.area.now h.new.area r.new.area s.args.lsn.0 s.args.rows h.result s.requires.1.0 s.requires.1.1.0 h.ensures.1 h.ensures.0 r.ensures
 
-pub put-file-spec : {M : Type 1} → statement M
-put-file-spec = tie.close (tie.spec (λ c κs. search rules) (λ c κs. search rules) (λ c. search rules) returns)
+pub put_file_spec : {M : Type 1} → statement M
+put_file_spec = tie.close (tie.spec (λ c κs. search rules) (λ c κs. search rules) (λ c. search rules) returns)
