@@ -57,7 +57,7 @@ module _ (slots : ℕ → Entry → List ℕ) (i k : ℕ) where
   newest-append : (u : ℕ) (es fs : List Entry) → newest_on slots i k u (es ++ fs) ≡ newest_on slots i k (newest_on slots i k u es) fs
   unfolding newest_on
   newest-append u [] fs = refl
-  newest-append u (d ∷ es) fs = newest-append _ es fs
+  newest-append u (d ∷ es) fs = newest-append (pick (has k (slots i d)) d.txn u) es fs
 
   pub newest-snoc : (es : List Entry) (e : Entry) → newest_on slots i k 0 (es ++ (e ∷ [])) ≡ pick (has k (slots i e)) e.txn (newest_on slots i k 0 es)
   unfolding newest_on

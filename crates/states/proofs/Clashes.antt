@@ -36,7 +36,7 @@ same-two e f g h k =
 newest-append : (e : Entry) (u : ℕ) (es fs : List Entry) → newest_from e u (es ++ fs) ≡ newest_from e (newest_from e u es) fs
 unfolding newest_from
 newest-append e u [] fs = refl
-newest-append e u (d ∷ es) fs = newest-append e _ es fs
+newest-append e u (d ∷ es) fs = newest-append e (pick (same_slot e d) d.txn u) es fs
 
 pub newest-snoc : (e : Entry) (es : List Entry) (g : Entry) → newest_by e (es ++ (g ∷ [])) ≡ pick (same_slot e g) g.txn (newest_by e es)
 unfolding newest_from
@@ -117,7 +117,7 @@ any-from {R} P (e ∷ es) h k = go (P e) refl k h.0 (any-from P es h.1)
 state-kept : (t s : ℕ) (es : List Entry) → (s ≡ 0 → ⊥) → state_from t s es ≡ 0 → ⊥
 unfolding state_from state_after
 state-kept t s [] n h = n h
-state-kept t s (e ∷ es) n h = state-kept t _ es (go (eqb e.txn t) (either (eqb e.kind commit) (eqb e.kind rollback))) h
+state-kept t s (e ∷ es) n h = state-kept t (pick (eqb e.txn t) (state_after e.kind) s) es (go (eqb e.txn t) (either (eqb e.kind commit) (eqb e.kind rollback))) h
   where
     go : (a b : Bool) → pick a (pick b 2 1) s ≡ 0 → ⊥
     go true true q = omega arith

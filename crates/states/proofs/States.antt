@@ -19,7 +19,7 @@ use Rattle.states.specs.State.{state_after, state_from, state_of, may_follow, or
 pub state-append : (t s : ℕ) (es fs : List Entry) → state_from t s (es ++ fs) ≡ state_from t (state_from t s es) fs
 unfolding state_from
 state-append t s [] fs = refl
-state-append t s (e ∷ es) fs = state-append t _ es fs
+state-append t s (e ∷ es) fs = state-append t (pick (eqb e.txn t) (state_after e.kind) s) es fs
 
 pub state-snoc : (t : ℕ) (es : List Entry) (e : Entry) → state_of t (es ++ (e ∷ [])) ≡ pick (eqb e.txn t) (state_after e.kind) (state_of t es)
 unfolding state_from
@@ -33,7 +33,7 @@ changing t f = both (is_change f) (eqb f.txn t)
 pub none-changed : (t s : ℕ) (es : List Entry) → state_from t s es ≡ 0 → (s ≡ 0) × (count (changing t) es ≡ 0)
 unfolding state_from state_after
 none-changed t s [] h = (h, refl)
-none-changed t s (e ∷ es) h = go (eqb e.txn t) (either (eqb e.kind commit) (eqb e.kind rollback)) (is_change e) (none-changed t _ es h)
+none-changed t s (e ∷ es) h = go (eqb e.txn t) (either (eqb e.kind commit) (eqb e.kind rollback)) (is_change e) (none-changed t (pick (eqb e.txn t) (state_after e.kind) s) es h)
   where
     go : (w b c : Bool) → (pick w (pick b 2 1) s ≡ 0) × (count (changing t) es ≡ 0) → (s ≡ 0) × (one (both c w) + count (changing t) es ≡ 0)
     go true true c k = absurd (omega arith)
@@ -77,7 +77,7 @@ told_none t = record { begins = refl; ends = refl }
 pub state-le : (t s : ℕ) (es : List Entry) → s ≤ 2 → state_from t s es ≤ 2
 unfolding state_from state_after
 state-le t s [] h = h
-state-le t s (e ∷ es) h = state-le t _ es (go (eqb e.txn t) (either (eqb e.kind commit) (eqb e.kind rollback)))
+state-le t s (e ∷ es) h = state-le t (pick (eqb e.txn t) (state_after e.kind) s) es (go (eqb e.txn t) (either (eqb e.kind commit) (eqb e.kind rollback)))
   where
     go : (a b : Bool) → pick a (pick b 2 1) s ≤ 2
     go true true = omega arith

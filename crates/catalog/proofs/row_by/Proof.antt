@@ -1,3 +1,5 @@
+use mathlib.Core.Path.{ap}
+use mathlib.Core.Bool.{not}
 use mathlib.Core.Path.{◌∙◌}
 use native.Mathlib.Omega.{arith}
 use borrow.Author.Rules.{rules}
@@ -44,7 +46,7 @@ returns-5 c =
     let n = c.before.before.before.before.before.before.byte_at-name in
     let s = c.before.before.before.before.before.before.before.byte_at-schema in
     let p = c.before.before.before.before.before.before.before.before.before.args.payload.now in
-    c.refused-then-not-newest.ensures ∙ newest-refused p s.result n.result s.ensures.0 n.ensures.0 c.before.before.before.before.before.if-payload-end.false c.before.before.if-payload-end-ne9.false c.before.before.before.before.before.before.before.before.before.args.newest c.before.if-not-newest.true
+    c.refused-then-not-newest.ensures ∙ newest-refused p s.result n.result s.ensures.0 n.ensures.0 c.before.before.before.before.before.if-payload-end.false c.before.before.if-payload-end-ne9.false c.before.before.before.before.before.before.before.before.before.args.newest (ap not c.before.if-not-newest.true)
 
 row-with-requires-3 : tie.Need-row_with-requires-2
 row-with-requires-3 c κs = ((c.before.before.before.before.before.before.before.before.byte_at-schema.ensures.0, c.before.before.before.before.before.before.before.before.byte_at-schema.ensures.1), c.before.before.before.before.before.before.before.byte_at-name.ensures.0)
@@ -54,7 +56,7 @@ returns-6 c =
     let n = c.before.before.before.before.before.before.before.before.byte_at-name in
     let s = c.before.before.before.before.before.before.before.before.before.byte_at-schema in
     let p = c.before.before.before.before.before.before.before.before.before.before.before.args.payload.now in
-    rw c.before.u64_at.ensures at c.row_with-2.ensures ∙ newest-read p s.result n.result s.ensures.0 n.ensures.0 c.before.before.before.before.before.before.before.if-payload-end.false c.before.before.before.before.if-payload-end-ne9.false c.before.before.before.before.before.before.before.before.before.before.before.args.newest c.before.before.before.if-not-newest.false
+    rw c.before.u64_at.ensures at c.row_with-2.ensures ∙ newest-read p s.result n.result s.ensures.0 n.ensures.0 c.before.before.before.before.before.before.before.if-payload-end.false c.before.before.before.before.if-payload-end-ne9.false c.before.before.before.before.before.before.before.before.before.before.before.args.newest (ap not c.before.before.before.if-not-newest.false)
 
 pub row_by_spec : {M : Type 1} → statement M
 row_by_spec =

@@ -15,9 +15,9 @@ returns : tie.Need-returns-then-size_wrong
 returns c = let w = c.before.before in repair-size _ _ _ _ (sym w.size_wrong.ensures ∙ c.before.if-size_wrong.true) c.refusal.ensures
 
 -- the pages have a right size
-sized : (c : tie.Else-size_wrong) → let s = c.before.before.before.before.before.before.args.pages.now in (pages_in s ≤ page_limit) × (length s ≡ pages_in s * page_bytes)
+sized : (c : tie.Else-size_wrong) → let s = c.before.before.before.before.before.args.pages.now in (pages_in s ≤ page_limit) × (length s ≡ pages_in s * page_bytes)
 sized c =
-    let s = c.before.before.before.before.before.before.args.pages.now in
+    let s = c.before.before.before.before.before.args.pages.now in
     let z = right-size s (sym c.before.size_wrong.ensures ∙ c.if-size_wrong.false) in
     (z.1, omega arith)
 
@@ -31,7 +31,7 @@ returns-2 c =
     repair-refused _ _ _ _ (sym e.before.size_wrong.ensures ∙ e.if-size_wrong.false) v.file_verdict-v.ensures c.if-v-ne0.true
 
 count-requires : tie.Need-count-n-requires
-count-requires c κs = let v = c.before.before in headed-least _ (accepted-file _ _ (sym (ap number_of v.file-verdict.ensures) ∙ c.if-v-ne0.false)).1
+count-requires c κs = let v = c.before.before in headed-least _ (accepted-file _ _ (sym (ap number_of v.file_verdict-v.ensures) ∙ c.if-v-ne0.false)).1
 
 restore-requires : tie.Need-restore-requires
 restore-requires c κs =
@@ -39,7 +39,7 @@ restore-requires c κs =
     let d = n.before in
     let v = d.before.before in
     let e = v.before.before in
-    let a = e.before.before.before.before.before.before.args in
+    let a = e.before.before.before.before.before.args in
     let z = accepted-file a.file.now (pages_in a.pages.now) (sym (ap number_of v.file_verdict-v.ensures) ∙ d.if-v-ne0.false) in
     let i = sym n.count-n.ensures.0 in (
       e.before.before.before.tables-t.ensures,

@@ -7,10 +7,10 @@ use Rattle.doublewrite.proofs.slot_id.Statement.{statement}
 use Rattle.doublewrite.proofs.slot_id.Tie as tie
 
 returns : tie.Need-returns-then-not-headed
-returns c = id-none _ _ (sym c.before.headed.ensures ∙ not-true _ c.if-not-headed.true)
+returns c = id-none _ _ (sym c.before.headed.ensures ∙ c.if-not-headed.true)
 
 count-requires : tie.Need-count-requires
-count-requires c κs = headed-least _ (sym c.before.headed.ensures ∙ not-false _ c.if-not-headed.false)
+count-requires c κs = headed-least _ (sym c.before.headed.ensures ∙ c.if-not-headed.false)
 
 returns-2 : tie.Need-returns-then-count-k
 returns-2 c = let i = c.before.before in id-past _ _ (sym i.before.headed.ensures ∙ not-false _ i.if1.false) (omega arith)

@@ -20,11 +20,11 @@ returns-2 : tie.Need-returns-then-not-rising
 returns-2 c =
     let r = c.before.before in
     let e = r.before in
-    write-list _ _ _ _ (sym e.before.size_wrong.ensures ∙ e.if-size_wrong.false) (sym r.rising.ensures ∙ not-true _ c.before.if-not-rising.true) c.refusal-then-not-rising.ensures
+    write-list _ _ _ _ (sym e.before.size_wrong.ensures ∙ e.if-size_wrong.false) (sym r.rising.ensures ∙ c.before.if-not-rising.true) c.refusal-then-not-rising.ensures
 
 -- the list names lent pages, which are few
 named : (c : tie.Else-not-rising) → let a = c.before.before.before.before.before.before.before.before.args in rises 0 (pages_in a.pages.now) a.list.now ≡ true
-named c = sym c.before.rising.ensures ∙ not-false _ c.if-not-rising.false
+named c = sym c.before.rising.ensures ∙ c.if-not-rising.false
 
 few : (c : tie.Else-not-rising) → let a = c.before.before.before.before.before.before.before.before.args in length a.list.now ≤ page_limit
 few c =

@@ -24,7 +24,7 @@ loop-holds : tie.Need-loop-row-init invariant-loop decreases-loop
 loop-holds c = search-all _ _
 
 -- a row was met
-met : (c : tie.In-At-2 invariant-loop decreases-loop) → let l = c.before.before in
+met : (c : tie.In-At invariant-loop decreases-loop) → let l = c.before.before in
     first_at l.loop-row.i l.loop-row.k (visible_rows l.before.before.args.pages.now) ≡ At c.in-At.row
 met c = sym c.before.next_row-next.ensures ∙ c.in-At.is
 

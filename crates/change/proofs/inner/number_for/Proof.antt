@@ -7,5 +7,5 @@ returns : tie.Need-returns
 unfolding number_for
 returns c = search rules
 
-pub number-for-spec : {M : Type 1} → statement M
-number-for-spec = tie.close (tie.spec (λ c. search rules) returns)
+pub number_for_spec : {M : Type 1} → statement M
+number_for_spec = tie.close (tie.spec (λ c. search rules) returns)

@@ -7,5 +7,5 @@ returns : tie.Need-returns
 unfolding slots_of
 returns c = refl
 
-pub slot-count-spec : {M : Type 1} → statement M
-slot-count-spec = tie.close (tie.spec returns)
+pub slot_count_spec : {M : Type 1} → statement M
+slot_count_spec = tie.close (tie.spec returns)

@@ -18,9 +18,9 @@ returns : tie.Need-returns
 unfolding is_summed
 returns c =
     let s = c.before.before.before in
-    let f = s.before.before.args.file.now in
+    let f = s.before.args.file.now in
     ap₂ eqb
-    (c.before.before.u32_at.ensures ∙ ap (λ (n : ℕ). number_at 4 n f) s.slot_place-e.ensures)
+    (c.before.u32_at.ensures ∙ ap (λ (n : ℕ). number_at 4 n f) s.slot_place-e.ensures)
     (c.crc32c.ensures ∙ ap (λ (n : ℕ). crc32c (take n f)) s.slot_place-e.ensures)
 
 pub summed_spec : {M : Type 1} → statement M

@@ -15,9 +15,9 @@ returns : tie.Need-returns-then-not-torn
 returns c =
     let t = c.before in
     let d = t.before.before.before in
-    let a = d.before.before.before.args in
+    let a = d.before.before.args in
     left-whole a.magic d.id_at-id.result (id_at a.file.now a.k) d.id_at-id.ensures a.pages.now (copy_at a.file.now a.k)
-    (sym t.torn.ensures ∙ not-true _ c.if-not-torn.true)
+    (sym t.torn.ensures ∙ c.if-not-torn.true)
 
 returns-2 : tie.Need-returns-then-not-good
 returns-2 c =
@@ -26,10 +26,10 @@ returns-2 c =
     let e = p.before in
     let t = e.before in
     let d = t.before.before.before in
-    let a = d.before.before.before.args in
+    let a = d.before.before.args in
     let f = a.file.now in
-    left-bad a.magic d.id_at-id.result (id_at f a.k) d.id_at-id.ensures a.pages.now (copy_at f a.k) (sym t.torn.ensures ∙ not-false _ e.if-not-torn.false)
-    (ap (is_good a.magic d.id_at-id.result) (sym (copy-part f a.k p.slot_place-p.result p.slot_place-p.ensures)) ∙ sym g.good2.ensures ∙ not-true _ c.if-not-good.true)
+    left-bad a.magic d.id_at-id.result (id_at f a.k) d.id_at-id.ensures a.pages.now (copy_at f a.k) (sym t.torn.ensures ∙ e.if-not-torn.false)
+    (ap (is_good a.magic d.id_at-id.result) (sym (copy-part f a.k p.slot_place-p.result p.slot_place-p.ensures)) ∙ sym g.good2.ensures ∙ c.if-not-good.true)
 
 returns-3 : tie.Need-returns
 returns-3 c =
@@ -40,11 +40,11 @@ returns-3 c =
     let e = p.before in
     let t = e.before in
     let d = t.before.before.before in
-    let a = d.before.before.before.args in
+    let a = d.before.before.args in
     let f = a.file.now in
     let z = copy-part f a.k p.slot_place-p.result p.slot_place-p.ensures in
-    left-restored a.magic d.id_at-id.result (id_at f a.k) d.id_at-id.ensures a.pages.now (copy_at f a.k) (sym t.torn.ensures ∙ not-false _ e.if-not-torn.false) _
-    (ap (is_good a.magic d.id_at-id.result) (sym z) ∙ sym g.good2.ensures ∙ not-false _ h.if-not-good.false)
+    left-restored a.magic d.id_at-id.result (id_at f a.k) d.id_at-id.ensures a.pages.now (copy_at f a.k) (sym t.torn.ensures ∙ e.if-not-torn.false) _
+    (ap (is_good a.magic d.id_at-id.result) (sym z) ∙ sym g.good2.ensures ∙ h.if-not-good.false)
     (s.store.ensures ∙ ap (λ (q : List ℕ). paste a.pages.now (d.id_at-id.result * page_bytes) q page_bytes) z)
 
 pub restore_page_spec : {M : Type 1} → statement M

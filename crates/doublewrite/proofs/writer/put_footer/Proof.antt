@@ -15,7 +15,7 @@ returns c =
     let c1 = c2.before.before.before.before in
     let k = c1.before.before in
     let p = k.before.before in
-    let s = p.before.before in
+    let s = p.before in
     footer-stored s.args.area.now _ _ s.args.n p.slot_place-at.result k.crc32c-crc.result p.slot_place-at.ensures s.requires.1.1 k.crc32c-crc.ensures c1.put_u32.ensures c2.put_u32-2.ensures
 
 pub put_footer_spec : {M : Type 1} → statement M

@@ -65,7 +65,7 @@ pub +put_number_spec : {M : Type 1} → statement M
     (λ c. record { fits = omega arith })
     (λ c. record { fits = omega arith })
     (λ c. in_area t c.before.before)
-    (λ c. record { fits = omega (arith, in_area t c.before.before.before, c.before.before.before.well-formed.0.0) })
+    (λ c. record { fits = omega (arith, in_area t c.before.before.before, c.before.before.before.well_formed.0.0) })
     (put-number-requires t)
     (same-length-2 t)
     (returns-2 t)

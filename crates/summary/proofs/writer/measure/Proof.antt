@@ -39,7 +39,7 @@ returns c =
     ap₂ counts (omega (arith, l.invariant.0, ap length none)) (omega (arith, l.invariant.1, ap length (rest-none s l.i l.k none)))
 
 -- a row was met
-met : (c : tie.In-At-2 invariant-loop decreases-loop) → let l = c.before.before in
+met : (c : tie.In-At invariant-loop decreases-loop) → let l = c.before.before in
     first_at l.loop-row.i l.loop-row.k (visible_rows l.before.before.before.args.pages.now) ≡ At c.in-At.row
 met c = sym c.before.next_noted-next.ensures ∙ c.in-At.is
 

@@ -40,10 +40,10 @@ returns c =
     let l = n.before.loop-row in
     let s = n.before.before.before.before.before.args.pages.now in
     let none = row-none visible s l.i l.k _ n.next_noted-next.ensures c.in_default.in_default-own.keys2 in
-    sym (put-none l.area l.at) ∙ ap (put l.area-1 l.at) (sym (rest-none s l.i l.k none)) ∙ l.invariant.2
+    sym (put-none l.area l.at) ∙ ap (put l.area l.at) (sym (rest-none s l.i l.k none)) ∙ l.invariant.2
 
 -- a row was met
-met : (c : tie.In-At-2 invariant-loop decreases-loop) → let l = c.before.before in
+met : (c : tie.In-At invariant-loop decreases-loop) → let l = c.before.before in
     first_at l.loop-row.i l.loop-row.k (visible_rows l.before.before.before.before.args.pages.now) ≡ At c.in-At.row
 met c = sym c.before.next_noted-next.ensures ∙ c.in-At.is
 
