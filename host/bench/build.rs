@@ -1,5 +1,5 @@
-//! Links the functions that `rt staticlib timed` writes for the benchmarks: from the directory that
-//! LUMBRAQUAY_STATICLIB_DIR names, else from target/staticlib.
+//! Links the functions for the benchmarks: from the directory that LUMBRAQUAY_STATICLIB_DIR names, else from
+//! target/staticlib, where `.ci/staticlib timed` puts them.
 use std::path::PathBuf;
 
 fn main() {

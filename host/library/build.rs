@@ -1,5 +1,5 @@
 //! Links the proved library: from the directory that LUMBRAQUAY_STATICLIB_DIR names, else from target/staticlib, where
-//! `rt staticlib capi` writes it.
+//! `.ci/staticlib capi` puts it.
 use std::path::PathBuf;
 
 fn main() {

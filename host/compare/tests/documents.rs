@@ -2,7 +2,7 @@
 //!
 //! | Written | Is |
 //! |---|---|
-//! | `page Layout.magicOf` | declared in specs/Layout.antt or proofs/Layout.antt of crates/page; `.typeOf` behind it too |
+//! | `page Layout.magic_of` | declared in specs/Layout.antt or proofs/Layout.antt of crates/page; `.type_of` behind it too |
 //! | `refusals Refusal` | such a file |
 //! | `page::inner::fault` | declared in src/inner.rt of crates/page |
 //! | `page_cases slot_cases` | a function in src of crates/page_cases |
@@ -21,16 +21,7 @@ const DOCUMENTS: [&str; 3] = [
 ];
 
 /// Words of the language and of its command.
-const LANGUAGE: [&str; 8] = [
-    "let",
-    "else",
-    "mut",
-    "u64",
-    "requires",
-    "ensures",
-    "rt",
-    "staticlib",
-];
+const LANGUAGE: [&str; 7] = ["let", "else", "mut", "u64", "requires", "ensures", "rt"];
 
 /// The directory that README.md stands in.
 fn top() -> PathBuf {
@@ -54,7 +45,7 @@ impl Repository {
             let name = entry.file_name().into_string().unwrap();
             let path = format!("{folder}{name}");
             if entry.file_type().unwrap().is_dir() {
-                if !matches!(name.as_str(), "target" | ".git") {
+                if !matches!(name.as_str(), "target" | "out" | ".git") {
                     self.enter(&format!("{path}/"));
                     self.0.insert(format!("{path}/"), BTreeSet::new());
                 }
@@ -89,7 +80,7 @@ impl Repository {
         })
     }
 
-    /// `Layout.magicOf`, or the file alone, of the specs or the proofs of one crate.
+    /// `Layout.magic_of`, or the file alone, of the specs or the proofs of one crate.
     fn has_stated(&self, of: &str, stated: &str) -> bool {
         let (file, name) = stated.split_once('.').unwrap_or((stated, ""));
         ["specs", "proofs"].iter().any(|part| {
@@ -322,7 +313,7 @@ fn a_reader_believes_no_internal_file() {
 fn a_misspelt_name_is_found() {
     let repository = Repository::read();
     for (there, missing) in [
-        ("page Layout.magicOf", "page Layout.magicOff"),
+        ("page Layout.magic_of", "page Layout.magic_off"),
         ("page FaultLaws.sound-good", "page FaultLaws.sound-goods"),
         ("rules Mend.winner", "rule Mend.winner"),
         ("refusals Refusal", "refusals Refusals"),
@@ -349,9 +340,9 @@ fn a_misspelt_name_is_found() {
         assert!(repository.has(there, &mut None), "{there}");
         assert!(!repository.has(missing, &mut None), "{missing}");
     }
-    let line = |name: &str| format!("| `page Layout.magicOf`, `{name}` | `page::verify` |");
-    assert!(repository.lacks(&line(".typeOf")).is_empty());
-    assert_eq!(repository.lacks(&line(".typesOf")).len(), 1);
-    assert_eq!(repository.lacks("`.typeOf`").len(), 1);
+    let line = |name: &str| format!("| `page Layout.magic_of`, `{name}` | `page::verify` |");
+    assert!(repository.lacks(&line(".type_of")).is_empty());
+    assert_eq!(repository.lacks(&line(".types_of")).len(), 1);
+    assert_eq!(repository.lacks("`.type_of`").len(), 1);
     assert!(!repository.lacks("one ` alone").is_empty());
 }

@@ -5,26 +5,38 @@ use std::os::unix::fs::{symlink, PermissionsExt};
 
 use crate::sandbox::{repository, Done, Sandbox};
 
-/// Stands in for a tool that says this version.
-fn tool(sandbox: &Sandbox, name: &str, version: &str) {
+/// Stands in for a tool that runs this shell line.
+fn tool_that(sandbox: &Sandbox, name: &str, line: &str) {
     let path = sandbox.path.join("bin").join(name);
-    fs::write(&path, format!("#!/bin/sh\necho '{version}'\n")).unwrap();
+    fs::write(&path, format!("#!/bin/sh\n{line}\n")).unwrap();
     fs::set_permissions(&path, PermissionsExt::from_mode(0o755)).unwrap();
 }
 
-/// A directory with the two scripts, and one for tools that has the shell's own.
+/// Stands in for a tool that says this version.
+fn tool(sandbox: &Sandbox, name: &str, version: &str) {
+    tool_that(sandbox, name, &format!("echo '{version}'"));
+}
+
+/// A directory with the scripts and a crate `capi`, and one for tools that has the shell's own.
 fn with_scripts() -> Sandbox {
     let sandbox = Sandbox::new();
-    for directory in ["bin", "home", "home/.ci", "home/crates"] {
-        fs::create_dir(sandbox.path.join(directory)).unwrap();
+    for directory in [
+        "bin",
+        "home/.ci",
+        "home/crates/capi/src",
+        "home/crates/capi/specs",
+        "home/crates/capi/proofs",
+    ] {
+        fs::create_dir_all(sandbox.path.join(directory)).unwrap();
     }
     sandbox.write("home/crates.txt", b"");
-    for script in ["lumbraquay", ".ci/tools"] {
+    for script in ["lumbraquay", ".ci/tools", ".ci/staticlib"] {
         let to = sandbox.path.join("home").join(script);
         fs::copy(repository().join(script), to).unwrap();
     }
     for name in [
-        "sh", "sed", "sort", "head", "dirname", "readlink", "echo", "cat", "find",
+        "sh", "sed", "sort", "head", "dirname", "readlink", "echo", "cat", "find", "mkdir", "cp",
+        "mv",
     ] {
         let found = ["/usr/bin", "/bin"].map(|directory| format!("{directory}/{name}"));
         let found = found.iter().find(|path| fs::metadata(path).is_ok());
@@ -85,13 +97,13 @@ fn the_wrapper_says_what_is_missing_through_a_link_too() {
 #[test]
 fn the_wrapper_proves_again_what_has_changed() {
     let sandbox = with_scripts();
-    for (name, version) in [("rt", "rt"), ("cc", "cc")] {
-        tool(&sandbox, name, version);
-    }
+    tool(&sandbox, "cc", "cc");
     for name in ["cargo", "rustc"] {
         tool(&sandbox, name, &format!("{name} 1.85.0"));
     }
-    fs::create_dir_all(sandbox.path.join("home/target/staticlib")).unwrap();
+    // As `rt lib` in the crate's folder; elsewhere there is nothing to write into.
+    let proved = "mkdir -p out && echo \"$*\" >out/libcapi.a && [ -d src ]";
+    tool_that(&sandbox, "rt", proved);
     fs::create_dir_all(sandbox.path.join("home/host/target/release")).unwrap();
     let command = sandbox.path.join("home/host/target/release/lumbraquay");
     symlink(sandbox.path.join("bin/cc"), command).unwrap();
@@ -100,14 +112,57 @@ fn the_wrapper_proves_again_what_has_changed() {
         done.err.contains("proving the library first")
     };
     assert!(proves());
+    let library = "home/target/staticlib/libcapi.a";
+    assert_eq!(sandbox.read(library), b"lib\n");
+    assert!(!proves());
     let set = |name: &str, day: &str| {
         sandbox.shell(&format!("touch -d {day} home/{name}")).done();
     };
-    for name in ["crates", "crates.txt"] {
+    let read = [
+        "crates.txt",
+        "crates/capi/src",
+        "crates/capi/specs",
+        "crates/capi/proofs",
+    ];
+    for name in read {
         set(name, "2020-01-01");
     }
     set("target/staticlib/libcapi.a", "2020-01-02");
     assert!(!proves());
-    set("crates/lib.rt", "2020-01-03");
+    // What rt keeps, and edits that it has to refuse.
+    for name in [
+        "crates",
+        "crates/capi",
+        "crates/capi/out",
+        "crates/capi/must-fail",
+    ] {
+        set(name, "2020-01-03");
+    }
+    assert!(!proves());
+    for name in read {
+        set("target/staticlib/libcapi.a", "2020-01-02");
+        set(name, "2020-01-03");
+        assert!(proves(), "{name}");
+        set(name, "2020-01-01");
+    }
+    set("crates/capi/src/lib.rt", "2020-01-03");
+    set("target/staticlib/libcapi.a", "2020-01-02");
     assert!(proves());
+}
+
+/// Where the library is not proved nothing is put into its place.
+#[test]
+fn the_wrapper_builds_nothing_unproved() {
+    let sandbox = with_scripts();
+    tool(&sandbox, "cc", "cc");
+    for name in ["cargo", "rustc"] {
+        tool(&sandbox, name, &format!("{name} 1.85.0"));
+    }
+    tool_that(&sandbox, "rt", "echo unproved; exit 1");
+    let done = run(&sandbox, "home/lumbraquay --version").ends(1);
+    assert!(
+        done.out.is_empty() && done.err.contains("unproved"),
+        "{done:#?}"
+    );
+    assert!(!sandbox.path.join("home/target").exists());
 }
