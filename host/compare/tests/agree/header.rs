@@ -114,16 +114,6 @@ fn names_and_numbers_are_the_same() {
     assert!(REFUSALS.is_sorted_by(|one, other| one.number < other.number));
 }
 
-/// `noDataPage` for `NO_DATA_PAGE`.
-fn camel_case(name: &str) -> String {
-    let lower = name.to_lowercase();
-    let mut words = lower.split('_');
-    let first = words.next().unwrap_or_default().to_string();
-    words.fold(first, |name, word| {
-        name + &word[..1].to_uppercase() + &word[1..]
-    })
-}
-
 #[test]
 fn refusals_are_one_list() {
     let code: Vec<String> = CODE
@@ -145,6 +135,6 @@ fn refusals_are_one_list() {
     );
     assert_eq!(
         rules,
-        expected(|name, number| format!("{} = {number}", camel_case(name)))
+        expected(|name, number| format!("{} = {number}", name.to_lowercase()))
     );
 }
