@@ -6,17 +6,9 @@ ghost use Rattle.std.specs.Prelude.{◌≡◌, length};
 use endian::PageNumber;
 use page::{Fault, NextRow, RowList};
 use refusals::Verdict;
+use std::io;
 
 const MAGIC: u64 = 0x0123_4567_89AB_CDEF;
-
-fn word(rt: &impl Print, s: &[u8]) -> io::Result<()> {
-    io::write_all(1, s);
-}
-
-fn number(rt: &impl Print, name: &str, n: u64) -> io::Result<()> {
-    word(rt, name)?;
-    io::print_decimal(1, n);
-}
 
 // ---- pages
 
@@ -52,27 +44,24 @@ fn base() -> [u8; 16384] {
 
 fn show_fault(rt: &impl Print, f: Fault) -> io::Result<()> {
     match f {
-        Fault::Sound => word(rt, b"sound")?,
-        Fault::MagicOrType => word(rt, b"magic or type")?,
-        Fault::Id => word(rt, b"id")?,
-        Fault::Checksum => word(rt, b"checksum")?,
-        Fault::Count => word(rt, b"count")?,
-        Fault::FreeStart => word(rt, b"free start")?,
-        Fault::FreeEnd => word(rt, b"free end")?,
-        Fault::Slot(k) => number(rt, "slot ", k as u64)?,
+        Fault::Sound => print!(rt; "sound"),
+        Fault::MagicOrType => print!(rt; "magic or type"),
+        Fault::Id => print!(rt; "id"),
+        Fault::Checksum => print!(rt; "checksum"),
+        Fault::Count => print!(rt; "count"),
+        Fault::FreeStart => print!(rt; "free start"),
+        Fault::FreeEnd => print!(rt; "free end"),
+        Fault::Slot(k) => print!(rt; "slot {k}"),
     }
 }
 
 // The name of a case, the first fault of the page at index 0, and the verdict on it.
 fn judge(rt: &impl Print, name: &str, p: &[u8; 16384]) -> io::Result<()> {
     let t = crc32c::inner::tables();
-    word(rt, name)?;
-    word(rt, b": ")?;
+    print!(rt; "{name}: ")?;
     show_fault(rt, page::inner::fault(&t, MAGIC, PageNumber(0), p))?;
     let v = page::verify(MAGIC, p);
-    number(rt, ", ", v.number)?;
-    number(rt, " at ", v.place)?;
-    word(rt, b"\n")
+    println!(rt; ", {} at {}", v.number, v.place)
 }
 
 // ---- the cases
@@ -150,10 +139,7 @@ fn pair_cases(rt: &impl Print) -> io::Result<()> {
 // ---- which of several faults is given
 
 fn show_verdict(rt: &impl Print, name: &str, v: Verdict) -> io::Result<()> {
-    word(rt, name)?;
-    number(rt, ": ", v.number)?;
-    number(rt, " at ", v.place)?;
-    word(rt, b"\n")
+    println!(rt; "{name}: {} at {}", v.number, v.place)
 }
 
 // Two pages, of which the first is good and the second has a magic, a type and an id, and its header's numbers.
@@ -170,36 +156,48 @@ fn pair(magic: u64, kind: u16, id: u16, crc: u32, count: u16, start: u16, end: u
 // A second page that is wrong in every way, mended step by step: 11, 17, 18, and 19 for its count, free start, free end and slot 1.
 fn order_cases(rt: &impl Print) -> io::Result<()> {
     let crc = crc32c::crc32c(&base()[64..]);
-    show_verdict(rt, "magic", page::verify(MAGIC, &pair(0, 7, 2, 0, 4081, 9, 7)))?;
-    show_verdict(rt,
+    show_verdict(
+        rt,
+        "magic",
+        page::verify(MAGIC, &pair(0, 7, 2, 0, 4081, 9, 7)),
+    )?;
+    show_verdict(
+        rt,
         "type",
         page::verify(MAGIC, &pair(MAGIC, 7, 2, 0, 4081, 9, 7)),
     )?;
-    show_verdict(rt,
+    show_verdict(
+        rt,
         "id",
         page::verify(MAGIC, &pair(MAGIC, 1, 2, 0, 4081, 9, 7)),
     )?;
-    show_verdict(rt,
+    show_verdict(
+        rt,
         "checksum",
         page::verify(MAGIC, &pair(MAGIC, 1, 1, 0, 4081, 9, 7)),
     )?;
-    show_verdict(rt,
+    show_verdict(
+        rt,
         "count",
         page::verify(MAGIC, &pair(MAGIC, 1, 1, crc, 4081, 9, 7)),
     )?;
-    show_verdict(rt,
+    show_verdict(
+        rt,
         "free start",
         page::verify(MAGIC, &pair(MAGIC, 1, 1, crc, 2, 9, 7)),
     )?;
-    show_verdict(rt,
+    show_verdict(
+        rt,
         "free end",
         page::verify(MAGIC, &pair(MAGIC, 1, 1, crc, 2, 8, 7)),
     )?;
-    show_verdict(rt,
+    show_verdict(
+        rt,
         "slot 1",
         page::verify(MAGIC, &pair(MAGIC, 1, 1, crc, 2, 8, 16251)),
     )?;
-    show_verdict(rt,
+    show_verdict(
+        rt,
         "good",
         page::verify(MAGIC, &pair(MAGIC, 1, 1, crc, 2, 8, 16250)),
     )
@@ -215,7 +213,7 @@ fn bad_area() -> [u8; 65536] {
 }
 
 fn show_from(rt: &impl Print, pages: &[u8], first: u64) -> io::Result<()> {
-    number(rt, "from ", first)?;
+    print!(rt; "from {first}")?;
     show_verdict(rt, "", page::verify_from(MAGIC, pages, PageNumber(first)))
 }
 
@@ -272,27 +270,23 @@ fn area() -> [u8; 49152] {
 }
 
 fn show_row(rt: &impl Print, pages: &[u8], i: u64, k: usize) -> io::Result<()> {
-    number(rt, "rows from ", i)?;
-    number(rt, ", ", k as u64)?;
+    print!(rt; "rows from {i}, {k}")?;
     let r = page::next_visible(MAGIC, pages, PageNumber(i), k);
     match r {
-        NextRow::Refused(v) => number(rt, ": refused by ", v.number)?,
-        NextRow::At(w) => {
-            let n = w.page;
-            number(rt, ": page ", n.0)?;
-            number(rt, ", slot ", w.slot as u64)?;
-            number(rt, ", length ", w.length as u64)?;
-            number(rt, ", at ", w.offset as u64)?;
-        }
-        NextRow::NoMore => word(rt, b": none")?,
+        NextRow::Refused(v) => println!(rt; ": refused by {}", v.number),
+        NextRow::At(w) => println!(rt;
+            ": page {}, slot {}, length {}, at {}",
+            w.page.0, w.slot, w.length, w.offset
+        ),
+        NextRow::NoMore => println!(rt; ": none"),
     }
-    word(rt, b"\n")
 }
 
 fn show_at(rt: &impl Print, s: &[u64], j: usize) -> io::Result<()> {
     if j < s.len() {
-        number(rt, " ", s[j])?;
+        print!(rt; " {}", s[j])?;
     }
+    Ok(())
 }
 
 // The first nine of some numbers.
@@ -306,20 +300,15 @@ fn show_nine(rt: &impl Print, s: &[u64]) -> io::Result<()> {
     show_at(rt, s, 6)?;
     show_at(rt, s, 7)?;
     show_at(rt, s, 8)?;
-    word(rt, b"\n")
+    println!(rt)
 }
 
 fn show_answer(rt: &impl Print, name: &str, i: u64, k: usize, l: RowList) -> io::Result<()> {
     let v = l.verdict;
-    let next = l.page;
-    number(rt, name, i)?;
-    number(rt, ", ", k as u64)?;
-    number(rt, ": ", v.number)?;
-    number(rt, " at ", v.place)?;
-    number(rt, ", rows ", l.count as u64)?;
-    number(rt, ", on from ", next.0)?;
-    number(rt, ", ", l.slot as u64)?;
-    word(rt, b":")
+    print!(rt;
+        "{name}{i}, {k}: {} at {}, rows {}, on from {}, {}:",
+        v.number, v.place, l.count, l.page.0, l.slot
+    )
 }
 
 // What a listing gives back, and the numbers that it was lent.
@@ -330,7 +319,13 @@ fn show_list(rt: &impl Print, pages: &[u8], i: u64, k: usize, rows: &mut [u64]) 
 }
 
 // The same of the cancelled rows.
-fn show_cancelled(rt: &impl Print, pages: &[u8], i: u64, k: usize, rows: &mut [u64]) -> io::Result<()> {
+fn show_cancelled(
+    rt: &impl Print,
+    pages: &[u8],
+    i: u64,
+    k: usize,
+    rows: &mut [u64],
+) -> io::Result<()> {
     let l = page::list_cancelled(MAGIC, pages, PageNumber(i), k, rows);
     show_answer(rt, "cancelled from ", i, k, l)?;
     show_nine(rt, rows)
@@ -339,13 +334,13 @@ fn show_cancelled(rt: &impl Print, pages: &[u8], i: u64, k: usize, rows: &mut [u
 fn show_map(rt: &impl Print, name: &str, pages: &[u8], map: &mut [u8]) -> io::Result<()> {
     let r = page::free_map(MAGIC, pages, map);
     let v = r.verdict;
-    word(rt, name)?;
-    number(rt, ": ", v.number)?;
-    number(rt, " at ", v.place)?;
-    number(rt, ", free ", r.free)?;
-    word(rt, b", map ")?;
-    io::print_hex(1, endian::u16_at(map, 0) as u64, 4);
-    word(rt, b"\n")
+    println!(rt;
+        "{name}: {} at {}, free {}, map {:04x}",
+        v.number,
+        v.place,
+        r.free,
+        endian::u16_at(map, 0)
+    )
 }
 
 fn row_cases(rt: &impl Print, a: &[u8]) -> io::Result<()>
