@@ -4,61 +4,58 @@
 
 use audit::Finding;
 use endian::{Lsn, PageNumber, put_u16, put_u32, put_u64};
+use std::io;
 
 const MAGIC: u64 = 0x0123_4567_89AB_CDEF;
 
-fn word(s: &[u8]) {
-    io::write_all(1, s);
-}
-
-fn number(name: &[u8], n: u64) {
-    word(name);
-    io::print_decimal(1, n);
-}
-
-fn show(name: &[u8], f: Finding) {
+fn show(rt: &impl Print, name: &str, f: Finding) -> io::Result<()> {
     let v = f.verdict;
-    let page = f.page;
-    word(name);
-    number(b": ", v.number);
-    number(b" at ", v.place);
-    number(b", differs ", f.differs as u64);
-    number(b", page ", page.0);
-    number(b" slot ", f.slot as u64);
-    word(b"\n");
+    println!(rt;
+        "{name}: {} at {}, differs {}, page {} slot {}",
+        v.number, v.place, f.differs as u8, f.page.0, f.slot
+    )
 }
 
-fn judged(name: &[u8], before: &[u8], log: &[u8], after: &[u8]) {
-    show(name, audit::judge(MAGIC, Lsn(0), before, log, after));
+fn judged(rt: &impl Print, name: &str, before: &[u8], log: &[u8], after: &[u8]) -> io::Result<()> {
+    show(rt, name, audit::judge(MAGIC, Lsn(0), before, log, after))
 }
 
-fn judged_from(name: &[u8], before: &[u8], log: &[u8], after: &[u8], first: u64) {
+fn judged_from(
+    rt: &impl Print,
+    name: &str,
+    before: &[u8],
+    log: &[u8],
+    after: &[u8],
+    first: u64,
+) -> io::Result<()> {
     show(
+        rt,
         name,
         audit::judge_from(MAGIC, Lsn(0), before, log, after, PageNumber(first)),
-    );
+    )
 }
 
 // The same of the first bytes of each, so many of them.
 fn judged_fronts(
-    name: &[u8],
+    rt: &impl Print,
+    name: &str,
     before: &[u8],
     b: usize,
     log: &[u8],
     l: usize,
     after: &[u8],
     a: usize,
-) {
+) -> io::Result<()> {
     if before.len() < b {
-        return;
+        return Ok(());
     }
     if log.len() < l {
-        return;
+        return Ok(());
     }
     if after.len() < a {
-        return;
+        return Ok(());
     }
-    judged(name, &before[0..b], &log[0..l], &after[0..a]);
+    judged(rt, name, &before[0..b], &log[0..l], &after[0..a])
 }
 
 // ---- two Data pages, and an Insert of a row of 30 bytes into slot 0 of page 0
@@ -131,62 +128,111 @@ fn with(mut p: [u8; 32768], at: usize, n: u16) -> [u8; 32768] {
     summed(p)
 }
 
-fn differences(before: &[u8; 32768], log: &[u8; 115], ours: [u8; 32768]) {
-    judged(b"our own pages", before, log, &ours);
-    judged(b"other flags", before, log, &with(ours, 8, 257));
-    judged(b"another LSN", before, log, &with(ours, 24, 999));
-    judged(b"not mended", before, log, before);
-    judged(b"the row twice", before, log, &twice(ours));
+fn differences(
+    rt: &impl Print,
+    before: &[u8; 32768],
+    log: &[u8; 115],
+    ours: [u8; 32768],
+) -> io::Result<()> {
+    judged(rt, "our own pages", before, log, &ours)?;
+    judged(rt, "other flags", before, log, &with(ours, 8, 257))?;
+    judged(rt, "another LSN", before, log, &with(ours, 24, 999))?;
+    judged(rt, "not mended", before, log, before)?;
+    judged(rt, "the row twice", before, log, &twice(ours))?;
     judged(
-        b"another byte of the row",
+        rt,
+        "another byte of the row",
         before,
         log,
         &with(ours, 16378, 1),
-    );
-    judged(b"another reserved byte", before, log, &with(ours, 60, 1));
+    )?;
+    judged(rt, "another reserved byte", before, log, &with(ours, 60, 1))?;
     judged(
-        b"another byte of the gap of page 0",
+        rt,
+        "another byte of the gap of page 0",
         before,
         log,
         &with(ours, 200, 1),
-    );
+    )?;
     judged(
-        b"another byte of the gap of page 1",
+        rt,
+        "another byte of the gap of page 1",
         before,
         log,
         &with(ours, 16600, 1),
-    );
+    )
 }
 
-fn refusals(before: &[u8; 32768], log: &[u8; 115], ours: [u8; 32768]) {
-    judged_fronts(b"a log of 31 bytes", before, 32768, log, 31, &ours, 32768);
-    judged_fronts(b"half a page before", before, 8192, log, 115, &ours, 32768);
-    judged_fronts(b"a page fewer", before, 32768, log, 115, &ours, 16384);
-    judged(b"another magic after", before, log, &with(ours, 16384, 1));
-    judged(b"another id after", before, log, &with(ours, 16400, 2));
-    judged(b"a wrong checksum after", before, log, &torn(ours));
-    judged(b"a wrong free start after", before, log, &with(ours, 32, 8));
+fn refusals(
+    rt: &impl Print,
+    before: &[u8; 32768],
+    log: &[u8; 115],
+    ours: [u8; 32768],
+) -> io::Result<()> {
+    judged_fronts(
+        rt,
+        "a log of 31 bytes",
+        before,
+        32768,
+        log,
+        31,
+        &ours,
+        32768,
+    )?;
+    judged_fronts(
+        rt,
+        "half a page before",
+        before,
+        8192,
+        log,
+        115,
+        &ours,
+        32768,
+    )?;
+    judged_fronts(rt, "a page fewer", before, 32768, log, 115, &ours, 16384)?;
+    judged(
+        rt,
+        "another magic after",
+        before,
+        log,
+        &with(ours, 16384, 1),
+    )?;
+    judged(rt, "another id after", before, log, &with(ours, 16400, 2))?;
+    judged(rt, "a wrong checksum after", before, log, &torn(ours))?;
+    judged(
+        rt,
+        "a wrong free start after",
+        before,
+        log,
+        &with(ours, 32, 8),
+    )
 }
 
-fn one_by_one(before: &[u8; 32768], log: &[u8; 115], ours: [u8; 32768]) {
+fn one_by_one(
+    rt: &impl Print,
+    before: &[u8; 32768],
+    log: &[u8; 115],
+    ours: [u8; 32768],
+) -> io::Result<()> {
     let both = with(with(ours, 60, 1), 16444, 1);
-    judged_from(b"from page 0", before, log, &both, 0);
-    judged_from(b"from page 1", before, log, &both, 1);
-    judged_from(b"from page 2", before, log, &both, 2);
+    judged_from(rt, "from page 0", before, log, &both, 0)?;
+    judged_from(rt, "from page 1", before, log, &both, 1)?;
+    judged_from(rt, "from page 2", before, log, &both, 2)?;
     judged_from(
-        b"from the last page there can be",
+        rt,
+        "from the last page there can be",
         before,
         log,
         &both,
         18446744073709551615,
-    );
+    )
 }
 
-fn main() {
+fn main(rt: HostRuntime) -> io::Result<()> {
     let before = pages();
     let log = insert();
     let ours = recovered(before, &log);
-    differences(&before, &log, ours);
-    refusals(&before, &log, ours);
-    one_by_one(&before, &log, ours);
+    differences(&rt, &before, &log, ours)?;
+    refusals(&rt, &before, &log, ours)?;
+    one_by_one(&rt, &before, &log, ours)
 }

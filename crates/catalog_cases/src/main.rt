@@ -8,17 +8,9 @@ use catalog::TableRow;
 use endian::PageNumber;
 use page::NextRow;
 use refusals::Written;
+use std::io;
 
 const MAGIC: u64 = 0x0123_4567_89AB_CDEF;
-
-fn word(s: &[u8]) {
-    io::write_all(1, s);
-}
-
-fn number(name: &[u8], n: u64) {
-    word(name);
-    io::print_decimal(1, n);
-}
 
 // ---- payloads
 
@@ -33,126 +25,130 @@ fn payload(table: u32, layout: u16) -> [u8; 34]
 }
 
 // What a reader says.
-fn show(r: TableRow) {
+fn show(rt: &impl Print, r: TableRow) -> io::Result<()> {
     let v = r.verdict;
-    let root = r.root;
     let schema = r.schema;
     let name = r.name;
-    number(b" ", v.number);
-    number(b" at ", v.place);
-    number(b" table ", r.table as u64);
-    number(b" root ", root.0);
-    number(b" schema ", schema.at as u64);
-    number(b" ", schema.length as u64);
-    number(b" name ", name.at as u64);
-    number(b" ", name.length as u64);
-    number(b" layout ", r.layout as u64);
-    number(b" version ", r.version);
-    word(b"\n");
+    println!(rt;
+        " {} at {} table {} root {} schema {} {} name {} {} layout {} version {}",
+        v.number,
+        v.place,
+        r.table,
+        r.root.0,
+        schema.at,
+        schema.length,
+        name.at,
+        name.length,
+        r.layout,
+        r.version
+    )
 }
 
 // What both readers say of a payload.
-fn readers(s: &[u8]) {
-    number(b"", s.len() as u64);
-    word(b" bytes, newest:");
-    show(catalog::read(s));
-    word(b"    older:");
-    show(catalog::read_older(s));
+fn readers(rt: &impl Print, s: &[u8]) -> io::Result<()> {
+    print!(rt; "{} bytes, newest:", s.len())?;
+    show(rt, catalog::read(s))?;
+    print!(rt; "    older:")?;
+    show(rt, catalog::read_older(s))
 }
 
 // The first n bytes of a payload.
-fn cut(s: &[u8], n: usize) {
+fn cut(rt: &impl Print, s: &[u8], n: usize) -> io::Result<()> {
     if n <= s.len() {
-        readers(&s[0..n]);
+        readers(rt, &s[0..n])?;
     }
+    Ok(())
 }
 
 // Without the last byte of each field, and with it.
-fn fields_cut(b: &[u8]) {
-    cut(b, 0);
-    cut(b, 3);
-    cut(b, 4);
-    cut(b, 11);
-    cut(b, 12);
-    cut(b, 13);
-    cut(b, 15);
-    cut(b, 16);
-    cut(b, 17);
-    cut(b, 22);
+fn fields_cut(rt: &impl Print, b: &[u8]) -> io::Result<()> {
+    cut(rt, b, 0)?;
+    cut(rt, b, 3)?;
+    cut(rt, b, 4)?;
+    cut(rt, b, 11)?;
+    cut(rt, b, 12)?;
+    cut(rt, b, 13)?;
+    cut(rt, b, 15)?;
+    cut(rt, b, 16)?;
+    cut(rt, b, 17)?;
+    cut(rt, b, 22)
 }
 
 // 0, 1, 2, 8, 9 and 10 bytes after the names.
-fn after_the_names(b: &[u8]) {
-    cut(b, 23);
-    cut(b, 24);
-    cut(b, 25);
-    cut(b, 31);
-    cut(b, 32);
-    cut(b, 33);
+fn after_the_names(rt: &impl Print, b: &[u8]) -> io::Result<()> {
+    cut(rt, b, 23)?;
+    cut(rt, b, 24)?;
+    cut(rt, b, 25)?;
+    cut(rt, b, 31)?;
+    cut(rt, b, 32)?;
+    cut(rt, b, 33)
 }
 
 // A layout byte in the second and in the newest form.
-fn layout_of(layout: u16)
+fn layout_of(rt: &impl Print, layout: u16) -> io::Result<()>
     requires { layout < 256 }
 {
-    number(b"layout ", layout as u64);
-    word(b"\n");
+    println!(rt; "layout {layout}")?;
     let b = payload(14, layout);
-    cut(&b, 24);
-    cut(&b, 32);
+    cut(rt, &b, 24)?;
+    cut(rt, &b, 32)
 }
 
-fn read_cases() {
-    fields_cut(&payload(14, 1));
-    after_the_names(&payload(14, 1));
-    layout_of(0);
-    layout_of(1);
-    layout_of(2);
-    layout_of(255);
+fn read_cases(rt: &impl Print) -> io::Result<()> {
+    fields_cut(rt, &payload(14, 1))?;
+    after_the_names(rt, &payload(14, 1))?;
+    layout_of(rt, 0)?;
+    layout_of(rt, 1)?;
+    layout_of(rt, 2)?;
+    layout_of(rt, 255)
 }
 
 // ---- written
 
-fn show_written(w: Written) {
+fn show_written(rt: &impl Print, w: Written) -> io::Result<()> {
     let v = w.verdict;
-    number(b": ", v.number);
-    number(b" at ", v.place);
-    number(b", length ", w.length as u64);
+    print!(rt; ": {} at {}, length {}", v.number, v.place, w.length)
 }
 
 // What writing answers, the two bytes behind what it wrote, and what is read back.
-fn written(schema: &[u8], name: &[u8], layout: u8, area: &mut [u8]) {
+fn written(
+    rt: &impl Print,
+    schema: &[u8],
+    name: &[u8],
+    layout: u8,
+    area: &mut [u8],
+) -> io::Result<()> {
     let most = 18446744073709551615;
     let w = catalog::write(14, PageNumber(most), schema, name, layout, most, area);
-    number(b"names of ", schema.len() as u64);
-    number(b" and ", name.len() as u64);
-    number(b", layout ", layout as u64);
-    number(b", area ", area.len() as u64);
-    show_written(w);
-    word(b", behind it ");
-    io::print_hex(1, endian::u16_at(area, w.length) as u64, 4);
-    word(b"\n");
-    cut(area, w.length);
+    print!(rt;
+        "names of {} and {}, layout {layout}, area {}",
+        schema.len(),
+        name.len(),
+        area.len()
+    )?;
+    show_written(rt, w)?;
+    println!(rt; ", behind it {:04x}", endian::u16_at(area, w.length))?;
+    cut(rt, area, w.length)
 }
 
 // The shortest row; 36; and 37 for an area one byte too short.
-fn no_names() {
-    written(b"", b"", 0, &mut [7u8; 23]);
-    written(b"", b"", 0, &mut [7u8; 22]);
-    written(b"", b"", 1, &mut [7u8; 25]);
-    written(b"", b"", 2, &mut [7u8; 25]);
-    written(b"", b"", 255, &mut [7u8; 25]);
+fn no_names(rt: &impl Print) -> io::Result<()> {
+    written(rt, b"", b"", 0, &mut [7u8; 23])?;
+    written(rt, b"", b"", 0, &mut [7u8; 22])?;
+    written(rt, b"", b"", 1, &mut [7u8; 25])?;
+    written(rt, b"", b"", 2, &mut [7u8; 25])?;
+    written(rt, b"", b"", 255, &mut [7u8; 25])
 }
 
 // Names of 255 bytes, and 37 for 256, after 36.
-fn long_names() {
-    written(&[65u8; 255], b"", 1, &mut [7u8; 278]);
-    written(b"", &[65u8; 255], 1, &mut [7u8; 278]);
-    written(&[65u8; 255], &[65u8; 255], 0, &mut [7u8; 533]);
-    written(&[65u8; 255], &[65u8; 255], 0, &mut [7u8; 532]);
-    written(&[65u8; 256], b"", 0, &mut [7u8; 600]);
-    written(b"", &[65u8; 256], 0, &mut [7u8; 600]);
-    written(&[65u8; 256], &[65u8; 256], 2, &mut [7u8; 600]);
+fn long_names(rt: &impl Print) -> io::Result<()> {
+    written(rt, &[65u8; 255], b"", 1, &mut [7u8; 278])?;
+    written(rt, b"", &[65u8; 255], 1, &mut [7u8; 278])?;
+    written(rt, &[65u8; 255], &[65u8; 255], 0, &mut [7u8; 533])?;
+    written(rt, &[65u8; 255], &[65u8; 255], 0, &mut [7u8; 532])?;
+    written(rt, &[65u8; 256], b"", 0, &mut [7u8; 600])?;
+    written(rt, b"", &[65u8; 256], 0, &mut [7u8; 600])?;
+    written(rt, &[65u8; 256], &[65u8; 256], 2, &mut [7u8; 600])
 }
 
 // ---- the search
@@ -232,61 +228,54 @@ fn area() -> [u8; 49152] {
     a
 }
 
-fn find(pages: &[u8], table: u32) {
-    number(b"table ", table as u64);
+fn find(rt: &impl Print, pages: &[u8], table: u32) -> io::Result<()> {
+    print!(rt; "table {table}")?;
     let found = catalog::find_table(MAGIC, pages, table);
     match found {
-        NextRow::Refused(v) => {
-            number(b": refused by ", v.number);
-            number(b" at ", v.place);
-        }
-        NextRow::At(w) => {
-            let n = w.page;
-            number(b": page ", n.0);
-            number(b", slot ", w.slot as u64);
-            number(b", length ", w.length as u64);
-            number(b", at ", w.offset as u64);
-        }
-        NextRow::NoMore => word(b": none"),
+        NextRow::Refused(v) => println!(rt; ": refused by {} at {}", v.number, v.place),
+        NextRow::At(w) => println!(rt;
+            ": page {}, slot {}, length {}, at {}",
+            w.page.0, w.slot, w.length, w.offset
+        ),
+        NextRow::NoMore => println!(rt; ": none"),
     }
-    word(b"\n");
 }
 
-fn find_cases(a: &[u8]) {
-    find(a, 13);
-    find(a, 14);
-    find(a, 15);
-    find(a, 16);
-    find(a, 0);
-    find(a, 4294967295);
-    find(b"", 14);
+fn find_cases(rt: &impl Print, a: &[u8]) -> io::Result<()> {
+    find(rt, a, 13)?;
+    find(rt, a, 14)?;
+    find(rt, a, 15)?;
+    find(rt, a, 16)?;
+    find(rt, a, 0)?;
+    find(rt, a, 4294967295)?;
+    find(rt, b"", 14)
 }
 
 // The area with one byte changed.
-fn find_in(at: usize, b: u8)
+fn find_in(rt: &impl Print, at: usize, b: u8) -> io::Result<()>
     requires { at < 49152 }
 {
     let mut a = area();
     a[at] = b;
-    find(&a, 14);
+    find(rt, &a, 14)
 }
 
 // It refuses as the listing does, also where a row stands before the page at fault: 1, 11, 17, 18, 19.
-fn find_refused(a: &[u8])
+fn find_refused(rt: &impl Print, a: &[u8]) -> io::Result<()>
     requires { length a.now ≡ 49152 }
 {
-    find(&a[0..49151], 14);
-    find_in(32768, 0);
-    find_in(32784, 3);
-    find_in(49151, 1);
-    find_in(32802, 255);
+    find(rt, &a[0..49151], 14)?;
+    find_in(rt, 32768, 0)?;
+    find_in(rt, 32784, 3)?;
+    find_in(rt, 49151, 1)?;
+    find_in(rt, 32802, 255)
 }
 
-fn main() {
-    read_cases();
-    no_names();
-    long_names();
+fn main(rt: HostRuntime) -> io::Result<()> {
+    read_cases(&rt)?;
+    no_names(&rt)?;
+    long_names(&rt)?;
     let a = area();
-    find_cases(&a);
-    find_refused(&a);
+    find_cases(&rt, &a)?;
+    find_refused(&rt, &a)
 }

@@ -2,27 +2,25 @@
 #![tactic(auto)]
 
 use crc32c::{START, crc32c, finish, update};
+use std::io;
 
 // Writes the name, the checksum of s, and the checksum of its two pieces around cut.
-fn show(name: &[u8], s: &[u8], cut: usize) {
-    io::write_all(1, name);
-    io::write_all(1, b" ");
-    io::print_hex(1, crc32c(s) as u64, 8);
+fn show(rt: &impl Print, name: &str, s: &[u8], cut: usize) -> io::Result<()> {
+    print!(rt; "{name} {:08x}", crc32c(s))?;
     if cut <= s.len() {
         let half = update(START, &s[0..cut]);
-        io::write_all(1, b" ");
-        io::print_hex(1, finish(update(half, &s[cut..])) as u64, 8);
+        print!(rt; " {:08x}", finish(update(half, &s[cut..])))?;
     }
-    io::write_all(1, b"\n");
+    println!(rt)
 }
 
-fn main() {
-    show(b"empty", &[0u8; 0], 0);
-    show(b"check value of 123456789", b"123456789", 4);
+fn main(rt: HostRuntime) -> io::Result<()> {
+    show(&rt, "empty", &[0u8; 0], 0)?;
+    show(&rt, "check value of 123456789", b"123456789", 4)?;
     let zeros = [0u8; 32];
-    show(b"32 zeros", &zeros, 32);
+    show(&rt, "32 zeros", &zeros, 32)?;
     let ones = [255u8; 32];
-    show(b"32 ones", &ones, 1);
+    show(&rt, "32 ones", &ones, 1)?;
     let up = [
         0u8, 1, 2, 3, 4, 5, 6, 7, 8, 9, 10, 11, 12, 13, 14, 15, 16, 17, 18, 19, 20, 21, 22, 23, 24,
         25, 26, 27, 28, 29, 30, 31,
@@ -31,13 +29,13 @@ fn main() {
         31u8, 30, 29, 28, 27, 26, 25, 24, 23, 22, 21, 20, 19, 18, 17, 16, 15, 14, 13, 12, 11, 10,
         9, 8, 7, 6, 5, 4, 3, 2, 1, 0,
     ];
-    show(b"0 to 31 rising", &up, 8);
-    show(b"31 to 0 falling", &down, 9);
+    show(&rt, "0 to 31 rising", &up, 8)?;
+    show(&rt, "31 to 0 falling", &down, 9)?;
     let command = [
         0x01u8, 0xC0, 0, 0, 0, 0, 0, 0, 0, 0, 0, 0, 0, 0, 0, 0, 0x14, 0, 0, 0, 0, 0, 0x04, 0, 0, 0,
         0, 0x14, 0, 0, 0, 0x18, 0x28, 0, 0, 0, 0, 0, 0, 0, 0x02, 0, 0, 0, 0, 0, 0, 0,
     ];
-    show(b"read command", &command, 43);
+    show(&rt, "read command", &command, 43)?;
     let long = [7u8; 40000];
-    show(b"40000 sevens", &long, 16320);
+    show(&rt, "40000 sevens", &long, 16320)
 }

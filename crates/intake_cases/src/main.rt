@@ -5,20 +5,12 @@
 ghost use Rattle.std.specs.Prelude.{◌≡◌, ◌≤◌, ◌<◌, length};
 
 use intake::Order;
+use std::io;
 
 const MAGIC: u64 = 0x0123_4567_89AB_CDEF;
 
 // The second half of every mark but one.
 const HIGH: u64 = 0xF0E0_D0C0_B0A0_9080;
-
-fn word(s: &[u8]) {
-    io::write_all(1, s);
-}
-
-fn number(name: &[u8], n: u64) {
-    word(name);
-    io::print_decimal(1, n);
-}
 
 // ---- pages
 
@@ -104,102 +96,97 @@ fn area() -> [u8; 49152] {
 
 // ---- answers
 
-fn show(o: Order) {
-    let n = o.page;
-    number(b" page ", n.0);
-    number(b" slot ", o.slot as u64);
-    number(b" part ", o.part as u64);
-    number(b" quantity ", o.quantity as u64);
+fn show(rt: &impl Print, o: Order) -> io::Result<()> {
+    print!(rt;
+        " page {} slot {} part {} quantity {}",
+        o.page.0, o.slot, o.part, o.quantity
+    )
 }
 
-fn find(pages: &[u8], low: u64, high: u64) {
+fn find(rt: &impl Print, pages: &[u8], low: u64, high: u64) -> io::Result<()> {
     let mut mark = [0u8; 16];
     endian::put_u64(&mut mark, 0, low);
     endian::put_u64(&mut mark, 8, high);
     let f = intake::find(MAGIC, pages, &mark);
     let v = f.verdict;
-    let o = f.order;
-    number(b"mark ", low);
-    number(b": ", v.number);
-    number(b" at ", v.place);
-    number(b", found ", f.found as u64);
-    show(o);
-    number(b", short ", f.short as u64);
-    word(b"\n");
+    print!(rt;
+        "mark {low}: {} at {}, found {}",
+        v.number, v.place, f.found as u8
+    )?;
+    show(rt, f.order)?;
+    println!(rt; ", short {}", f.short)
 }
 
-fn repeated(pages: &[u8]) {
+fn repeated(rt: &impl Print, pages: &[u8]) -> io::Result<()> {
     let f = intake::repeated(MAGIC, pages);
     let v = f.verdict;
-    let a = f.first;
-    let b = f.second;
-    number(b"repeated: ", v.number);
-    number(b" at ", v.place);
-    number(b", found ", f.found as u64);
-    word(b",");
-    show(a);
-    word(b",");
-    show(b);
-    word(b"\n");
+    print!(rt;
+        "repeated: {} at {}, found {},",
+        v.number, v.place, f.found as u8
+    )?;
+    show(rt, f.first)?;
+    print!(rt; ",")?;
+    show(rt, f.second)?;
+    println!(rt)
 }
 
-fn find_cases(a: &[u8]) {
-    find(a, 1, HIGH);
-    find(a, 2, HIGH);
-    find(a, 3, HIGH);
-    find(a, 4, HIGH);
-    find(a, 1, 0x70E0_D0C0_B0A0_9080);
-    find(a, 0, 0);
-    find(b"", 1, HIGH);
+fn find_cases(rt: &impl Print, a: &[u8]) -> io::Result<()> {
+    find(rt, a, 1, HIGH)?;
+    find(rt, a, 2, HIGH)?;
+    find(rt, a, 3, HIGH)?;
+    find(rt, a, 4, HIGH)?;
+    find(rt, a, 1, 0x70E0_D0C0_B0A0_9080)?;
+    find(rt, a, 0, 0)?;
+    find(rt, b"", 1, HIGH)
 }
 
 // Pages 0 and 1 have no pair; with page 2 mark 2's is the least, though mark 1's ends before it; with mark 2 on page 1 cancelled, mark 1's; with two orders more, the first two of three.
-fn repeated_cases(a: &[u8])
+fn repeated_cases(rt: &impl Print, a: &[u8]) -> io::Result<()>
     requires { length a.now ≡ 49152 }
 {
-    repeated(b"");
-    repeated(&a[0..32768]);
-    repeated(a);
+    repeated(rt, b"")?;
+    repeated(rt, &a[0..32768])?;
+    repeated(rt, a)
 }
 
-fn without_the_earliest() {
+fn without_the_earliest(rt: &impl Print) -> io::Result<()> {
     let mut a = area();
     page::inner::store(
         &mut a,
         1,
         &summed(with(with_row(headed(1, 1, 1), 0, 2, 16, 24), 15080, 1)),
     );
-    repeated(&a);
+    repeated(rt, &a)?;
     page::inner::store(&mut a, 1, &summed(with_row(headed(1, 1, 1), 0, 4, 30, 24)));
-    repeated(&a);
+    repeated(rt, &a)
 }
 
 // The area with one byte changed.
-fn both_in(at: usize, b: u8)
+fn both_in(rt: &impl Print, at: usize, b: u8) -> io::Result<()>
     requires { at < 49152 }
 {
     let mut a = area();
     a[at] = b;
-    find(&a, 1, HIGH);
-    repeated(&a);
+    find(rt, &a, 1, HIGH)?;
+    repeated(rt, &a)
 }
 
 // Both refuse as the listing does: 1, 11, 17, 18, 19.
-fn refused(a: &[u8])
+fn refused(rt: &impl Print, a: &[u8]) -> io::Result<()>
     requires { length a.now ≡ 49152 }
 {
-    find(&a[0..49151], 1, HIGH);
-    repeated(&a[0..49151]);
-    both_in(32768, 0);
-    both_in(32784, 3);
-    both_in(49151, 1);
-    both_in(32802, 255);
+    find(rt, &a[0..49151], 1, HIGH)?;
+    repeated(rt, &a[0..49151])?;
+    both_in(rt, 32768, 0)?;
+    both_in(rt, 32784, 3)?;
+    both_in(rt, 49151, 1)?;
+    both_in(rt, 32802, 255)
 }
 
-fn main() {
+fn main(rt: HostRuntime) -> io::Result<()> {
     let a = area();
-    find_cases(&a);
-    repeated_cases(&a);
-    without_the_earliest();
-    refused(&a);
+    find_cases(&rt, &a)?;
+    repeated_cases(&rt, &a)?;
+    without_the_earliest(&rt)?;
+    refused(&rt, &a)
 }

@@ -6,17 +6,9 @@ ghost use Rattle.std.specs.Prelude.{◌≡◌, length};
 use endian::PageNumber;
 use page::{Fault, NextRow, RowList};
 use refusals::Verdict;
+use std::io;
 
 const MAGIC: u64 = 0x0123_4567_89AB_CDEF;
-
-fn word(s: &[u8]) {
-    io::write_all(1, s);
-}
-
-fn number(name: &[u8], n: u64) {
-    word(name);
-    io::print_decimal(1, n);
-}
 
 // ---- pages
 
@@ -50,110 +42,104 @@ fn base() -> [u8; 16384] {
 
 // ---- what is seen
 
-fn show_fault(f: Fault) {
+fn show_fault(rt: &impl Print, f: Fault) -> io::Result<()> {
     match f {
-        Fault::Sound => word(b"sound"),
-        Fault::MagicOrType => word(b"magic or type"),
-        Fault::Id => word(b"id"),
-        Fault::Checksum => word(b"checksum"),
-        Fault::Count => word(b"count"),
-        Fault::FreeStart => word(b"free start"),
-        Fault::FreeEnd => word(b"free end"),
-        Fault::Slot(k) => number(b"slot ", k as u64),
+        Fault::Sound => print!(rt; "sound"),
+        Fault::MagicOrType => print!(rt; "magic or type"),
+        Fault::Id => print!(rt; "id"),
+        Fault::Checksum => print!(rt; "checksum"),
+        Fault::Count => print!(rt; "count"),
+        Fault::FreeStart => print!(rt; "free start"),
+        Fault::FreeEnd => print!(rt; "free end"),
+        Fault::Slot(k) => print!(rt; "slot {k}"),
     }
 }
 
 // The name of a case, the first fault of the page at index 0, and the verdict on it.
-fn judge(name: &[u8], p: &[u8; 16384]) {
+fn judge(rt: &impl Print, name: &str, p: &[u8; 16384]) -> io::Result<()> {
     let t = crc32c::inner::tables();
-    word(name);
-    word(b": ");
-    show_fault(page::inner::fault(&t, MAGIC, PageNumber(0), p));
+    print!(rt; "{name}: ")?;
+    show_fault(rt, page::inner::fault(&t, MAGIC, PageNumber(0), p))?;
     let v = page::verify(MAGIC, p);
-    number(b", ", v.number);
-    number(b" at ", v.place);
-    word(b"\n");
+    println!(rt; ", {} at {}", v.number, v.place)
 }
 
 // ---- the cases
 
 // The page with n in two bytes of its header.
-fn changed(name: &[u8], at: usize, n: u16) {
+fn changed(rt: &impl Print, name: &str, at: usize, n: u16) -> io::Result<()> {
     let p = with(base(), at, n);
-    judge(name, &p);
+    judge(rt, name, &p)
 }
 
 // The page with n in two bytes of its body, and the checksum to match.
-fn changed_body(name: &[u8], at: usize, n: u16) {
+fn changed_body(rt: &impl Print, name: &str, at: usize, n: u16) -> io::Result<()> {
     let p = summed(with(base(), at, n));
-    judge(name, &p);
+    judge(rt, name, &p)
 }
 
-fn header_cases() {
-    judge(b"good", &base());
-    changed(b"magic", 0, 0);
-    changed(b"type 7", 8, 7);
-    changed(b"type 6", 8, 6);
-    changed(b"id 1", 16, 1);
-    changed(b"checksum", 12, 0);
-    changed(b"a byte of the gap", 100, 1);
-    changed(b"count 4081", 10, 4081);
-    changed(b"free start 9", 32, 9);
-    changed(b"free end 7", 34, 7);
-    changed(b"free end 16321", 34, 16321);
-    changed(b"free end 16320", 34, 16320);
-    changed(b"free end 8", 34, 8);
+fn header_cases(rt: &impl Print) -> io::Result<()> {
+    judge(rt, "good", &base())?;
+    changed(rt, "magic", 0, 0)?;
+    changed(rt, "type 7", 8, 7)?;
+    changed(rt, "type 6", 8, 6)?;
+    changed(rt, "id 1", 16, 1)?;
+    changed(rt, "checksum", 12, 0)?;
+    changed(rt, "a byte of the gap", 100, 1)?;
+    changed(rt, "count 4081", 10, 4081)?;
+    changed(rt, "free start 9", 32, 9)?;
+    changed(rt, "free end 7", 34, 7)?;
+    changed(rt, "free end 16321", 34, 16321)?;
+    changed(rt, "free end 16320", 34, 16320)?;
+    changed(rt, "free end 8", 34, 8)
 }
 
-fn slot_cases() {
-    changed_body(b"length 23", 70, 23);
-    changed_body(b"length 24", 70, 24);
-    changed_body(b"deleted byte 2", 16370, 2);
-    changed_body(b"deleted byte 1", 16370, 1);
-    changed(b"offset below free end", 34, 16251);
-    changed(b"offset at free end", 34, 16250);
-    changed_body(b"end past the body", 66, 31);
-    changed_body(b"offset with no length", 70, 0);
-    changed_body(b"length with no offset", 68, 0);
+fn slot_cases(rt: &impl Print) -> io::Result<()> {
+    changed_body(rt, "length 23", 70, 23)?;
+    changed_body(rt, "length 24", 70, 24)?;
+    changed_body(rt, "deleted byte 2", 16370, 2)?;
+    changed_body(rt, "deleted byte 1", 16370, 1)?;
+    changed(rt, "offset below free end", 34, 16251)?;
+    changed(rt, "offset at free end", 34, 16250)?;
+    changed_body(rt, "end past the body", 66, 31)?;
+    changed_body(rt, "offset with no length", 70, 0)?;
+    changed_body(rt, "length with no offset", 68, 0)
 }
 
-fn empty_slot() {
+fn empty_slot(rt: &impl Print) -> io::Result<()> {
     let p = with(with(base(), 68, 0), 70, 0);
-    judge(b"empty slot", &summed(p));
+    judge(rt, "empty slot", &summed(p))
 }
 
-fn overlap() {
+fn overlap(rt: &impl Print) -> io::Result<()> {
     let p = with(with(base(), 68, 16251), 16331, 0);
-    judge(b"overlap by one byte", &summed(p));
+    judge(rt, "overlap by one byte", &summed(p))
 }
 
 // The tuple of slot 0 stands before that of slot 1, which starts at a place.
-fn other_order(name: &[u8], at: u16) {
+fn other_order(rt: &impl Print, name: &str, at: u16) -> io::Result<()> {
     let p = with(with(base(), 64, 16250), 66, 40);
     let q = with(with(p, 68, at), 70, 30);
-    judge(name, &summed(with(q, 16369, 0)));
+    judge(rt, name, &summed(with(q, 16369, 0)))
 }
 
-fn two_slots() {
+fn two_slots(rt: &impl Print) -> io::Result<()> {
     let p = with(with(base(), 68, 16290), 70, 30);
-    judge(b"one tuple in two slots", &summed(p));
+    judge(rt, "one tuple in two slots", &summed(p))
 }
 
-fn pair_cases() {
-    empty_slot();
-    overlap();
-    other_order(b"touching, in the other order", 16290);
-    other_order(b"overlap, in the other order", 16289);
-    two_slots();
+fn pair_cases(rt: &impl Print) -> io::Result<()> {
+    empty_slot(rt)?;
+    overlap(rt)?;
+    other_order(rt, "touching, in the other order", 16290)?;
+    other_order(rt, "overlap, in the other order", 16289)?;
+    two_slots(rt)
 }
 
 // ---- which of several faults is given
 
-fn show_verdict(name: &[u8], v: Verdict) {
-    word(name);
-    number(b": ", v.number);
-    number(b" at ", v.place);
-    word(b"\n");
+fn show_verdict(rt: &impl Print, name: &str, v: Verdict) -> io::Result<()> {
+    println!(rt; "{name}: {} at {}", v.number, v.place)
 }
 
 // Two pages, of which the first is good and the second has a magic, a type and an id, and its header's numbers.
@@ -168,41 +154,53 @@ fn pair(magic: u64, kind: u16, id: u16, crc: u32, count: u16, start: u16, end: u
 }
 
 // A second page that is wrong in every way, mended step by step: 11, 17, 18, and 19 for its count, free start, free end and slot 1.
-fn order_cases() {
+fn order_cases(rt: &impl Print) -> io::Result<()> {
     let crc = crc32c::crc32c(&base()[64..]);
-    show_verdict(b"magic", page::verify(MAGIC, &pair(0, 7, 2, 0, 4081, 9, 7)));
     show_verdict(
-        b"type",
+        rt,
+        "magic",
+        page::verify(MAGIC, &pair(0, 7, 2, 0, 4081, 9, 7)),
+    )?;
+    show_verdict(
+        rt,
+        "type",
         page::verify(MAGIC, &pair(MAGIC, 7, 2, 0, 4081, 9, 7)),
-    );
+    )?;
     show_verdict(
-        b"id",
+        rt,
+        "id",
         page::verify(MAGIC, &pair(MAGIC, 1, 2, 0, 4081, 9, 7)),
-    );
+    )?;
     show_verdict(
-        b"checksum",
+        rt,
+        "checksum",
         page::verify(MAGIC, &pair(MAGIC, 1, 1, 0, 4081, 9, 7)),
-    );
+    )?;
     show_verdict(
-        b"count",
+        rt,
+        "count",
         page::verify(MAGIC, &pair(MAGIC, 1, 1, crc, 4081, 9, 7)),
-    );
+    )?;
     show_verdict(
-        b"free start",
+        rt,
+        "free start",
         page::verify(MAGIC, &pair(MAGIC, 1, 1, crc, 2, 9, 7)),
-    );
+    )?;
     show_verdict(
-        b"free end",
+        rt,
+        "free end",
         page::verify(MAGIC, &pair(MAGIC, 1, 1, crc, 2, 8, 7)),
-    );
+    )?;
     show_verdict(
-        b"slot 1",
+        rt,
+        "slot 1",
         page::verify(MAGIC, &pair(MAGIC, 1, 1, crc, 2, 8, 16251)),
-    );
+    )?;
     show_verdict(
-        b"good",
+        rt,
+        "good",
         page::verify(MAGIC, &pair(MAGIC, 1, 1, crc, 2, 8, 16250)),
-    );
+    )
 }
 
 // A free page, a Data page with a free end too low, a page with another id, and one of zeros.
@@ -214,22 +212,22 @@ fn bad_area() -> [u8; 65536] {
     a
 }
 
-fn show_from(pages: &[u8], first: u64) {
-    number(b"from ", first);
-    show_verdict(b"", page::verify_from(MAGIC, pages, PageNumber(first)));
+fn show_from(rt: &impl Print, pages: &[u8], first: u64) -> io::Result<()> {
+    print!(rt; "from {first}")?;
+    show_verdict(rt, "", page::verify_from(MAGIC, pages, PageNumber(first)))
 }
 
 // The lower page's number is given; from a page on, that of the next bad one.
-fn from_cases(a: &[u8])
+fn from_cases(rt: &impl Print, a: &[u8]) -> io::Result<()>
     requires { length a.now ≡ 65536 }
 {
-    show_from(a, 0);
-    show_from(a, 1);
-    show_from(a, 2);
-    show_from(a, 3);
-    show_from(a, 4);
-    show_from(a, 18446744073709551615);
-    show_from(&a[0..65535], 4);
+    show_from(rt, a, 0)?;
+    show_from(rt, a, 1)?;
+    show_from(rt, a, 2)?;
+    show_from(rt, a, 3)?;
+    show_from(rt, a, 4)?;
+    show_from(rt, a, 18446744073709551615)?;
+    show_from(rt, &a[0..65535], 4)
 }
 
 // ---- areas
@@ -271,148 +269,145 @@ fn area() -> [u8; 49152] {
     a
 }
 
-fn show_row(pages: &[u8], i: u64, k: usize) {
-    number(b"rows from ", i);
-    number(b", ", k as u64);
+fn show_row(rt: &impl Print, pages: &[u8], i: u64, k: usize) -> io::Result<()> {
+    print!(rt; "rows from {i}, {k}")?;
     let r = page::next_visible(MAGIC, pages, PageNumber(i), k);
     match r {
-        NextRow::Refused(v) => number(b": refused by ", v.number),
-        NextRow::At(w) => {
-            let n = w.page;
-            number(b": page ", n.0);
-            number(b", slot ", w.slot as u64);
-            number(b", length ", w.length as u64);
-            number(b", at ", w.offset as u64);
-        }
-        NextRow::NoMore => word(b": none"),
+        NextRow::Refused(v) => println!(rt; ": refused by {}", v.number),
+        NextRow::At(w) => println!(rt;
+            ": page {}, slot {}, length {}, at {}",
+            w.page.0, w.slot, w.length, w.offset
+        ),
+        NextRow::NoMore => println!(rt; ": none"),
     }
-    word(b"\n");
 }
 
-fn show_at(s: &[u64], j: usize) {
+fn show_at(rt: &impl Print, s: &[u64], j: usize) -> io::Result<()> {
     if j < s.len() {
-        number(b" ", s[j]);
+        print!(rt; " {}", s[j])?;
     }
+    Ok(())
 }
 
 // The first nine of some numbers.
-fn show_nine(s: &[u64]) {
-    show_at(s, 0);
-    show_at(s, 1);
-    show_at(s, 2);
-    show_at(s, 3);
-    show_at(s, 4);
-    show_at(s, 5);
-    show_at(s, 6);
-    show_at(s, 7);
-    show_at(s, 8);
-    word(b"\n");
+fn show_nine(rt: &impl Print, s: &[u64]) -> io::Result<()> {
+    show_at(rt, s, 0)?;
+    show_at(rt, s, 1)?;
+    show_at(rt, s, 2)?;
+    show_at(rt, s, 3)?;
+    show_at(rt, s, 4)?;
+    show_at(rt, s, 5)?;
+    show_at(rt, s, 6)?;
+    show_at(rt, s, 7)?;
+    show_at(rt, s, 8)?;
+    println!(rt)
 }
 
-fn show_answer(name: &[u8], i: u64, k: usize, l: RowList) {
+fn show_answer(rt: &impl Print, name: &str, i: u64, k: usize, l: RowList) -> io::Result<()> {
     let v = l.verdict;
-    let next = l.page;
-    number(name, i);
-    number(b", ", k as u64);
-    number(b": ", v.number);
-    number(b" at ", v.place);
-    number(b", rows ", l.count as u64);
-    number(b", on from ", next.0);
-    number(b", ", l.slot as u64);
-    word(b":");
+    print!(rt;
+        "{name}{i}, {k}: {} at {}, rows {}, on from {}, {}:",
+        v.number, v.place, l.count, l.page.0, l.slot
+    )
 }
 
 // What a listing gives back, and the numbers that it was lent.
-fn show_list(pages: &[u8], i: u64, k: usize, rows: &mut [u64]) {
+fn show_list(rt: &impl Print, pages: &[u8], i: u64, k: usize, rows: &mut [u64]) -> io::Result<()> {
     let l = page::list_visible(MAGIC, pages, PageNumber(i), k, rows);
-    show_answer(b"list from ", i, k, l);
-    show_nine(rows);
+    show_answer(rt, "list from ", i, k, l)?;
+    show_nine(rt, rows)
 }
 
 // The same of the cancelled rows.
-fn show_cancelled(pages: &[u8], i: u64, k: usize, rows: &mut [u64]) {
+fn show_cancelled(
+    rt: &impl Print,
+    pages: &[u8],
+    i: u64,
+    k: usize,
+    rows: &mut [u64],
+) -> io::Result<()> {
     let l = page::list_cancelled(MAGIC, pages, PageNumber(i), k, rows);
-    show_answer(b"cancelled from ", i, k, l);
-    show_nine(rows);
+    show_answer(rt, "cancelled from ", i, k, l)?;
+    show_nine(rt, rows)
 }
 
-fn show_map(name: &[u8], pages: &[u8], map: &mut [u8]) {
+fn show_map(rt: &impl Print, name: &str, pages: &[u8], map: &mut [u8]) -> io::Result<()> {
     let r = page::free_map(MAGIC, pages, map);
     let v = r.verdict;
-    word(name);
-    number(b": ", v.number);
-    number(b" at ", v.place);
-    number(b", free ", r.free);
-    word(b", map ");
-    io::print_hex(1, endian::u16_at(map, 0) as u64, 4);
-    word(b"\n");
+    println!(rt;
+        "{name}: {} at {}, free {}, map {:04x}",
+        v.number,
+        v.place,
+        r.free,
+        endian::u16_at(map, 0)
+    )
 }
 
-fn row_cases(a: &[u8])
+fn row_cases(rt: &impl Print, a: &[u8]) -> io::Result<()>
     requires { length a.now ≡ 49152 }
 {
-    show_row(a, 0, 0);
-    show_row(a, 0, 3);
-    show_row(a, 0, 4);
-    show_row(a, 1, 0);
-    show_row(a, 2, 1);
-    show_row(a, 3, 0);
-    show_row(a, 18446744073709551615, 18446744073709551615);
-    show_row(&a[0..49151], 0, 0);
-    show_row(&a[16384..], 0, 0);
-    show_row(&a[0..0], 0, 0);
+    show_row(rt, a, 0, 0)?;
+    show_row(rt, a, 0, 3)?;
+    show_row(rt, a, 0, 4)?;
+    show_row(rt, a, 1, 0)?;
+    show_row(rt, a, 2, 1)?;
+    show_row(rt, a, 3, 0)?;
+    show_row(rt, a, 18446744073709551615, 18446744073709551615)?;
+    show_row(rt, &a[0..49151], 0, 0)?;
+    show_row(rt, &a[16384..], 0, 0)?;
+    show_row(rt, &a[0..0], 0, 0)
 }
 
-fn list_cases(a: &[u8])
+fn list_cases(rt: &impl Print, a: &[u8]) -> io::Result<()>
     requires { length a.now ≡ 49152 }
 {
-    show_list(a, 0, 0, &mut [9u64; 9]);
-    show_list(a, 2, 0, &mut [9u64; 9]);
-    show_list(a, 0, 3, &mut [9u64; 8]);
-    show_list(a, 2, 1, &mut [9u64; 4]);
-    show_list(a, 0, 0, &mut [9u64; 3]);
-    show_list(a, 1, 0, &mut [9u64; 0]);
-    show_list(&a[16384..], 0, 0, &mut [9u64; 4]);
+    show_list(rt, a, 0, 0, &mut [9u64; 9])?;
+    show_list(rt, a, 2, 0, &mut [9u64; 9])?;
+    show_list(rt, a, 0, 3, &mut [9u64; 8])?;
+    show_list(rt, a, 2, 1, &mut [9u64; 4])?;
+    show_list(rt, a, 0, 0, &mut [9u64; 3])?;
+    show_list(rt, a, 1, 0, &mut [9u64; 0])?;
+    show_list(rt, &a[16384..], 0, 0, &mut [9u64; 4])
 }
 
 // Of the four, the first alone is visible.
-fn state_cases(p: &[u8]) {
-    show_row(p, 0, 0);
-    show_row(p, 0, 1);
-    show_list(p, 0, 0, &mut [9u64; 5]);
-    show_cancelled(p, 0, 0, &mut [9u64; 8]);
-    show_cancelled(p, 0, 3, &mut [9u64; 8]);
+fn state_cases(rt: &impl Print, p: &[u8]) -> io::Result<()> {
+    show_row(rt, p, 0, 0)?;
+    show_row(rt, p, 0, 1)?;
+    show_list(rt, p, 0, 0, &mut [9u64; 5])?;
+    show_cancelled(rt, p, 0, 0, &mut [9u64; 8])?;
+    show_cancelled(rt, p, 0, 3, &mut [9u64; 8])
 }
 
-fn cancelled_cases(a: &[u8])
+fn cancelled_cases(rt: &impl Print, a: &[u8]) -> io::Result<()>
     requires { length a.now ≡ 49152 }
 {
-    show_cancelled(a, 0, 0, &mut [9u64; 9]);
-    show_cancelled(a, 0, 1, &mut [9u64; 4]);
-    show_cancelled(a, 0, 0, &mut [9u64; 3]);
-    show_cancelled(&a[16384..], 0, 0, &mut [9u64; 4]);
+    show_cancelled(rt, a, 0, 0, &mut [9u64; 9])?;
+    show_cancelled(rt, a, 0, 1, &mut [9u64; 4])?;
+    show_cancelled(rt, a, 0, 0, &mut [9u64; 3])?;
+    show_cancelled(rt, &a[16384..], 0, 0, &mut [9u64; 4])
 }
 
-fn map_cases(a: &[u8])
+fn map_cases(rt: &impl Print, a: &[u8]) -> io::Result<()>
     requires { length a.now ≡ 49152 }
 {
-    show_map(b"three pages", a, &mut [255u8; 2]);
-    show_map(b"no map", a, &mut [255u8; 0]);
-    show_map(b"bad pages", &a[16384..], &mut [255u8; 2]);
-    show_map(b"half a page", &a[0..8192], &mut [255u8; 2]);
-    show_map(b"no pages", &a[0..0], &mut [255u8; 2]);
+    show_map(rt, "three pages", a, &mut [255u8; 2])?;
+    show_map(rt, "no map", a, &mut [255u8; 0])?;
+    show_map(rt, "bad pages", &a[16384..], &mut [255u8; 2])?;
+    show_map(rt, "half a page", &a[0..8192], &mut [255u8; 2])?;
+    show_map(rt, "no pages", &a[0..0], &mut [255u8; 2])
 }
 
-fn main() {
-    header_cases();
-    slot_cases();
-    pair_cases();
-    order_cases();
-    from_cases(&bad_area());
+fn main(rt: HostRuntime) -> io::Result<()> {
+    header_cases(&rt)?;
+    slot_cases(&rt)?;
+    pair_cases(&rt)?;
+    order_cases(&rt)?;
+    from_cases(&rt, &bad_area())?;
     let a = area();
-    row_cases(&a);
-    list_cases(&a);
-    state_cases(&states_page());
-    cancelled_cases(&a);
-    map_cases(&a);
+    row_cases(&rt, &a)?;
+    list_cases(&rt, &a)?;
+    state_cases(&rt, &states_page())?;
+    cancelled_cases(&rt, &a)?;
+    map_cases(&rt, &a)
 }

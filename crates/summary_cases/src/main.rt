@@ -5,18 +5,10 @@
 ghost use Rattle.std.specs.Prelude.{◌≡◌, length};
 
 use endian::Lsn;
+use std::io;
 use summary::SummaryRow;
 
 const MAGIC: u64 = 0x0123_4567_89AB_CDEF;
-
-fn word(s: &[u8]) {
-    io::write_all(1, s);
-}
-
-fn number(name: &[u8], n: u64) {
-    word(name);
-    io::print_decimal(1, n);
-}
 
 // ---- pages
 
@@ -54,259 +46,286 @@ fn pages() -> [u8; 49152] {
 // ---- what is seen
 
 // The bytes of an area, the first last, as two numbers of eight; a byte past its end counts as 0.
-fn show_area(s: &[u8]) {
-    word(b" area ");
-    io::print_hex(1, endian::u64_at(s, 8), 16);
-    io::print_hex(1, endian::u64_at(s, 0), 16);
-    word(b"\n");
+fn show_area(rt: &impl Print, s: &[u8]) -> io::Result<()> {
+    println!(rt;
+        " area {:016x}{:016x}",
+        endian::u64_at(s, 8),
+        endian::u64_at(s, 0)
+    )
 }
 
-fn show_row(row: SummaryRow) {
-    let page = row.page;
-    number(b", page ", page.0);
-    number(b" slot ", row.slot);
-    number(b" length ", row.length);
+fn show_row(rt: &impl Print, row: SummaryRow) -> io::Result<()> {
+    print!(rt;
+        ", page {} slot {} length {}",
+        row.page.0, row.slot, row.length
+    )
 }
 
 // Writes the summary of pages into an area, and shows the answer and the area.
-fn written(name: &[u8], magic: u64, p: &[u8], lsn: u64, area: &mut [u8]) {
+fn written(
+    rt: &impl Print,
+    name: &str,
+    magic: u64,
+    p: &[u8],
+    lsn: u64,
+    area: &mut [u8],
+) -> io::Result<()> {
     let w = summary::write(magic, p, Lsn(lsn), area);
     let v = w.verdict;
-    word(name);
-    number(b" into ", area.len() as u64);
-    number(b": ", v.number);
-    number(b" at ", v.place);
-    number(b", length ", w.length as u64);
-    word(b",");
-    show_area(area);
+    print!(rt;
+        "{name} into {}: {} at {}, length {},",
+        area.len(),
+        v.number,
+        v.place,
+        w.length
+    )?;
+    show_area(rt, area)
 }
 
 // Reads a file, and shows the answer.
-fn judged(name: &[u8], file: &[u8]) {
-    word(name);
+fn judged(rt: &impl Print, name: &str, file: &[u8]) -> io::Result<()> {
     let s = summary::read(file);
     let v = s.verdict;
-    number(b": ", v.number);
-    number(b" at ", v.place);
-    let last = s.lsn;
-    number(b", last LSN ", last.0);
-    number(b", count ", s.count);
-    number(b", first row at ", s.first as u64);
-    word(b"\n");
+    println!(rt;
+        "{name}: {} at {}, last LSN {}, count {}, first row at {}",
+        v.number, v.place, s.lsn.0, s.count, s.first
+    )
 }
 
-fn row_of(file: &[u8], n: u64) {
+fn row_of(rt: &impl Print, file: &[u8], n: u64) -> io::Result<()> {
     let r = summary::row(file, n);
-    number(b"row ", n);
     let v = r.verdict;
-    number(b": ", v.number);
-    number(b" at ", v.place);
-    let row = r.row;
-    show_row(row);
-    word(b"\n");
+    print!(rt; "row {n}: {} at {}", v.number, v.place)?;
+    show_row(rt, r.row)?;
+    println!(rt)
 }
 
-fn step_of(file: &[u8], place: usize) {
+fn step_of(rt: &impl Print, file: &[u8], place: usize) -> io::Result<()> {
     let s = summary::step(file, place);
-    number(b"step from ", place as u64);
-    number(b" to ", s.after as u64);
-    let row = s.row;
-    show_row(row);
-    word(b"\n");
+    print!(rt; "step from {place} to {}", s.after)?;
+    show_row(rt, s.row)?;
+    println!(rt)
 }
 
 // ---- the cases
 
 const EXAMPLE: [u8; 7] = [1, 172, 2, 1, 2, 0, 40];
 
-fn write_cases(p: &[u8]) {
-    written(b"one row", MAGIC, p, 300, &mut [238u8; 0]);
-    written(b"one row", MAGIC, p, 300, &mut [238u8; 1]);
-    written(b"one row", MAGIC, p, 300, &mut [238u8; 2]);
-    written(b"one row", MAGIC, p, 300, &mut [238u8; 3]);
-    written(b"one row", MAGIC, p, 300, &mut [238u8; 4]);
-    written(b"one row", MAGIC, p, 300, &mut [238u8; 5]);
-    written(b"one row", MAGIC, p, 300, &mut [238u8; 6]);
-    written(b"one row", MAGIC, p, 300, &mut [238u8; 7]);
-    written(b"one row", MAGIC, p, 300, &mut [238u8; 8]);
-    written(b"one row", MAGIC, p, 300, &mut [238u8; 16]);
+fn write_cases(rt: &impl Print, p: &[u8]) -> io::Result<()> {
+    written(rt, "one row", MAGIC, p, 300, &mut [238u8; 0])?;
+    written(rt, "one row", MAGIC, p, 300, &mut [238u8; 1])?;
+    written(rt, "one row", MAGIC, p, 300, &mut [238u8; 2])?;
+    written(rt, "one row", MAGIC, p, 300, &mut [238u8; 3])?;
+    written(rt, "one row", MAGIC, p, 300, &mut [238u8; 4])?;
+    written(rt, "one row", MAGIC, p, 300, &mut [238u8; 5])?;
+    written(rt, "one row", MAGIC, p, 300, &mut [238u8; 6])?;
+    written(rt, "one row", MAGIC, p, 300, &mut [238u8; 7])?;
+    written(rt, "one row", MAGIC, p, 300, &mut [238u8; 8])?;
+    written(rt, "one row", MAGIC, p, 300, &mut [238u8; 16])
 }
 
-fn other_writes(p: &[u8]) {
-    written(b"another magic", 1, p, 300, &mut [238u8; 0]);
+fn other_writes(rt: &impl Print, p: &[u8]) -> io::Result<()> {
+    written(rt, "another magic", 1, p, 300, &mut [238u8; 0])?;
     written(
-        b"the greatest LSN",
+        rt,
+        "the greatest LSN",
         MAGIC,
         p,
         18446744073709551615,
         &mut [238u8; 16],
-    );
+    )?;
     written(
-        b"the greatest LSN",
+        rt,
+        "the greatest LSN",
         MAGIC,
         p,
         18446744073709551615,
         &mut [238u8; 14],
-    );
-    written(b"no pages", MAGIC, &[], 0, &mut [238u8; 3]);
-    written(b"no pages", MAGIC, &[], 0, &mut [238u8; 2]);
+    )?;
+    written(rt, "no pages", MAGIC, &[], 0, &mut [238u8; 3])?;
+    written(rt, "no pages", MAGIC, &[], 0, &mut [238u8; 2])
 }
 
-fn row_cases() {
+fn row_cases(rt: &impl Print) -> io::Result<()> {
     let e = EXAMPLE;
-    judged(b"the example", &e);
-    row_of(&e, 0);
-    row_of(&e, 1);
-    row_of(&e, 18446744073709551615);
-    step_of(&e, 4);
-    step_of(&e, 5);
-    step_of(&e, 7);
-    step_of(&e, 18446744073709551615);
-    row_of(&e[..6], 0);
+    judged(rt, "the example", &e)?;
+    row_of(rt, &e, 0)?;
+    row_of(rt, &e, 1)?;
+    row_of(rt, &e, 18446744073709551615)?;
+    step_of(rt, &e, 4)?;
+    step_of(rt, &e, 5)?;
+    step_of(rt, &e, 7)?;
+    step_of(rt, &e, 18446744073709551615)?;
+    row_of(rt, &e[..6], 0)
 }
 
 // The example cut at every byte.
-fn cut_cases() {
+fn cut_cases(rt: &impl Print) -> io::Result<()> {
     let e = EXAMPLE;
-    judged(b"cut at 0", &e[..0]);
-    judged(b"cut at 1", &e[..1]);
-    judged(b"cut at 2", &e[..2]);
-    judged(b"cut at 3", &e[..3]);
-    judged(b"cut at 4", &e[..4]);
-    judged(b"cut at 5", &e[..5]);
-    judged(b"cut at 6", &e[..6]);
+    judged(rt, "cut at 0", &e[..0])?;
+    judged(rt, "cut at 1", &e[..1])?;
+    judged(rt, "cut at 2", &e[..2])?;
+    judged(rt, "cut at 3", &e[..3])?;
+    judged(rt, "cut at 4", &e[..4])?;
+    judged(rt, "cut at 5", &e[..5])?;
+    judged(rt, "cut at 6", &e[..6])
 }
 
 // A last LSN of 1 to 10 groups.
-fn group_cases() {
-    judged(b"1 group", &[1, 1, 0]);
-    judged(b"2 groups", &[1, 128, 1, 0]);
-    judged(b"3 groups", &[1, 128, 128, 1, 0]);
-    judged(b"4 groups", &[1, 128, 128, 128, 1, 0]);
-    judged(b"5 groups", &[1, 128, 128, 128, 128, 1, 0]);
-    judged(b"6 groups", &[1, 128, 128, 128, 128, 128, 1, 0]);
-    judged(b"7 groups", &[1, 128, 128, 128, 128, 128, 128, 1, 0]);
-    judged(b"8 groups", &[1, 128, 128, 128, 128, 128, 128, 128, 1, 0]);
+fn group_cases(rt: &impl Print) -> io::Result<()> {
+    judged(rt, "1 group", &[1, 1, 0])?;
+    judged(rt, "2 groups", &[1, 128, 1, 0])?;
+    judged(rt, "3 groups", &[1, 128, 128, 1, 0])?;
+    judged(rt, "4 groups", &[1, 128, 128, 128, 1, 0])?;
+    judged(rt, "5 groups", &[1, 128, 128, 128, 128, 1, 0])?;
+    judged(rt, "6 groups", &[1, 128, 128, 128, 128, 128, 1, 0])?;
+    judged(rt, "7 groups", &[1, 128, 128, 128, 128, 128, 128, 1, 0])?;
     judged(
-        b"9 groups",
+        rt,
+        "8 groups",
+        &[1, 128, 128, 128, 128, 128, 128, 128, 1, 0],
+    )?;
+    judged(
+        rt,
+        "9 groups",
         &[1, 128, 128, 128, 128, 128, 128, 128, 128, 1, 0],
-    );
+    )?;
     judged(
-        b"10 groups",
+        rt,
+        "10 groups",
         &[1, 128, 128, 128, 128, 128, 128, 128, 128, 128, 1, 0],
-    );
+    )
 }
 
-fn spelling_cases() {
+fn spelling_cases(rt: &impl Print) -> io::Result<()> {
     judged(
-        b"2^64 - 1",
+        rt,
+        "2^64 - 1",
         &[1, 255, 255, 255, 255, 255, 255, 255, 255, 255, 1, 0],
-    );
+    )?;
     judged(
-        b"2^64",
+        rt,
+        "2^64",
         &[1, 128, 128, 128, 128, 128, 128, 128, 128, 128, 2, 0],
-    );
+    )?;
     judged(
-        b"11 groups",
+        rt,
+        "11 groups",
         &[1, 128, 128, 128, 128, 128, 128, 128, 128, 128, 128, 1, 0],
-    );
-    judged(b"2 groups, the last 0", &[1, 133, 0, 0]);
+    )?;
+    judged(rt, "2 groups, the last 0", &[1, 133, 0, 0])?;
     judged(
-        b"10 groups, the last 0",
+        rt,
+        "10 groups, the last 0",
         &[1, 128, 128, 128, 128, 128, 128, 128, 128, 128, 0, 0],
-    );
+    )?;
     judged(
-        b"11 groups, the last 0",
+        rt,
+        "11 groups, the last 0",
         &[1, 128, 128, 128, 128, 128, 128, 128, 128, 128, 128, 0, 0],
-    );
-    judged(b"edition with a zero group", &[129, 0, 5, 0]);
-    judged(b"count with a zero group", &[1, 5, 128, 0]);
+    )?;
+    judged(rt, "edition with a zero group", &[129, 0, 5, 0])?;
+    judged(rt, "count with a zero group", &[1, 5, 128, 0])
 }
 
-fn edition_cases() {
-    judged(b"edition 0", &[0, 5, 0]);
-    judged(b"edition 1", &[1, 5, 0]);
-    judged(b"edition 2", &[2, 5, 0]);
-    judged(b"edition 129", &[129, 1, 5, 0]);
+fn edition_cases(rt: &impl Print) -> io::Result<()> {
+    judged(rt, "edition 0", &[0, 5, 0])?;
+    judged(rt, "edition 1", &[1, 5, 0])?;
+    judged(rt, "edition 2", &[2, 5, 0])?;
+    judged(rt, "edition 129", &[129, 1, 5, 0])
 }
 
-fn range_cases() {
+fn range_cases(rt: &impl Print) -> io::Result<()> {
     judged(
-        b"page 4095 slot 4079 length 24",
+        rt,
+        "page 4095 slot 4079 length 24",
         &[1, 5, 1, 255, 31, 239, 31, 24],
-    );
-    judged(b"page 4096", &[1, 5, 1, 128, 32, 0, 24]);
-    judged(b"slot 4080", &[1, 5, 1, 0, 240, 31, 24]);
-    judged(b"length 23", &[1, 5, 1, 0, 0, 23]);
-    judged(b"length 16316", &[1, 5, 1, 0, 0, 188, 127]);
-    judged(b"length 16317", &[1, 5, 1, 0, 0, 189, 127]);
+    )?;
+    judged(rt, "page 4096", &[1, 5, 1, 128, 32, 0, 24])?;
+    judged(rt, "slot 4080", &[1, 5, 1, 0, 240, 31, 24])?;
+    judged(rt, "length 23", &[1, 5, 1, 0, 0, 23])?;
+    judged(rt, "length 16316", &[1, 5, 1, 0, 0, 188, 127])?;
+    judged(rt, "length 16317", &[1, 5, 1, 0, 0, 189, 127])
 }
 
-fn order_cases() {
-    judged(b"next slot", &[1, 5, 2, 7, 5, 24, 7, 6, 24]);
-    judged(b"next page", &[1, 5, 2, 7, 5, 24, 8, 0, 24]);
-    judged(b"the same slot", &[1, 5, 2, 7, 5, 24, 7, 5, 24]);
-    judged(b"a lower slot", &[1, 5, 2, 7, 5, 24, 7, 4, 24]);
-    judged(b"a lower page", &[1, 5, 2, 7, 5, 24, 6, 9, 24]);
-    judged(b"the third row", &[1, 5, 3, 7, 5, 24, 7, 6, 24, 7, 6, 24]);
-}
-
-fn end_cases() {
-    judged(b"a byte left over", &[1, 5, 0, 0]);
-    judged(b"a byte behind a row", &[1, 5, 1, 2, 0, 40, 128]);
-    judged(b"a row more promised", &[1, 5, 2, 2, 0, 40]);
+fn order_cases(rt: &impl Print) -> io::Result<()> {
+    judged(rt, "next slot", &[1, 5, 2, 7, 5, 24, 7, 6, 24])?;
+    judged(rt, "next page", &[1, 5, 2, 7, 5, 24, 8, 0, 24])?;
+    judged(rt, "the same slot", &[1, 5, 2, 7, 5, 24, 7, 5, 24])?;
+    judged(rt, "a lower slot", &[1, 5, 2, 7, 5, 24, 7, 4, 24])?;
+    judged(rt, "a lower page", &[1, 5, 2, 7, 5, 24, 6, 9, 24])?;
     judged(
-        b"2^64 - 1 rows promised",
+        rt,
+        "the third row",
+        &[1, 5, 3, 7, 5, 24, 7, 6, 24, 7, 6, 24],
+    )
+}
+
+fn end_cases(rt: &impl Print) -> io::Result<()> {
+    judged(rt, "a byte left over", &[1, 5, 0, 0])?;
+    judged(rt, "a byte behind a row", &[1, 5, 1, 2, 0, 40, 128])?;
+    judged(rt, "a row more promised", &[1, 5, 2, 2, 0, 40])?;
+    judged(
+        rt,
+        "2^64 - 1 rows promised",
         &[
             1, 5, 255, 255, 255, 255, 255, 255, 255, 255, 255, 1, 2, 0, 40,
         ],
-    );
+    )
 }
 
 // Several faults in one file: the first number at fault, and of its faults the lowest.
-fn several_faults() {
-    judged(b"edition 2, spelled too long", &[130, 0, 128, 0]);
-    judged(b"edition 2, then a zero group", &[2, 128, 0]);
+fn several_faults(rt: &impl Print) -> io::Result<()> {
+    judged(rt, "edition 2, spelled too long", &[130, 0, 128, 0])?;
+    judged(rt, "edition 2, then a zero group", &[2, 128, 0])?;
     judged(
-        b"page 4096, spelled too long",
+        rt,
+        "page 4096, spelled too long",
         &[1, 5, 2, 7, 5, 24, 128, 160, 0],
-    );
+    )?;
     judged(
-        b"a lower page, spelled too long",
+        rt,
+        "a lower page, spelled too long",
         &[1, 5, 2, 7, 5, 24, 134, 0, 0],
-    );
+    )?;
     judged(
-        b"slot 4080 on an earlier page",
+        rt,
+        "slot 4080 on an earlier page",
         &[1, 5, 2, 7, 5, 24, 6, 240, 31, 23],
-    );
+    )?;
     judged(
-        b"slot 4080 on the same page",
+        rt,
+        "slot 4080 on the same page",
         &[1, 5, 2, 7, 5, 24, 7, 240, 31, 23],
-    );
-    judged(b"length 23, then bytes left over", &[1, 5, 1, 0, 0, 23, 9]);
-    judged(b"a length that does not end", &[1, 5, 1, 0, 0, 128]);
+    )?;
+    judged(
+        rt,
+        "length 23, then bytes left over",
+        &[1, 5, 1, 0, 0, 23, 9],
+    )?;
+    judged(rt, "a length that does not end", &[1, 5, 1, 0, 0, 128])
 }
 
 // A thousand groups that go on, and the same and then a last one that is 0.
-fn long_cases() {
+fn long_cases(rt: &impl Print) -> io::Result<()> {
     let mut f = [128u8; 1001];
-    judged(b"1000 groups", &f[..1000]);
+    judged(rt, "1000 groups", &f[..1000])?;
     f[1000] = 0;
-    judged(b"1000 groups and a zero", &f);
+    judged(rt, "1000 groups and a zero", &f)
 }
 
-fn main() {
+fn main(rt: HostRuntime) -> io::Result<()> {
     let p = pages();
-    write_cases(&p);
-    other_writes(&p);
-    row_cases();
-    cut_cases();
-    group_cases();
-    spelling_cases();
-    edition_cases();
-    range_cases();
-    order_cases();
-    end_cases();
-    several_faults();
-    long_cases();
+    write_cases(&rt, &p)?;
+    other_writes(&rt, &p)?;
+    row_cases(&rt)?;
+    cut_cases(&rt)?;
+    group_cases(&rt)?;
+    spelling_cases(&rt)?;
+    edition_cases(&rt)?;
+    range_cases(&rt)?;
+    order_cases(&rt)?;
+    end_cases(&rt)?;
+    several_faults(&rt)?;
+    long_cases(&rt)
 }

@@ -5,6 +5,7 @@ ghost use Rattle.std.specs.Prelude.{◌≤◌};
 
 use crate::trip::there_and_back;
 use endian::{put_u16, put_u32, put_u64};
+use std::io;
 use wal::{Before, EntryView, Reading};
 
 mod trip;
@@ -64,251 +65,233 @@ fn put_entry(log: &mut [u8], place: u16, kind: u8, key: u8, old: u8, new: u8) {
 
 // ---- what is found
 
-fn number(name: &[u8], n: u64) {
-    io::write_all(1, name);
-    io::print_decimal(1, n);
+fn print_numbers(rt: &impl Print, v: EntryView) -> io::Result<()> {
+    print!(rt;
+        " lsn {} transaction {} type {} table {}",
+        v.lsn.0, v.txn.0, v.kind, v.table
+    )
 }
 
-fn print_numbers(v: EntryView) {
-    let lsn = v.lsn;
-    let txn = v.txn;
-    number(b" lsn ", lsn.0);
-    number(b" transaction ", txn.0);
-    number(b" type ", v.kind as u64);
-    number(b" table ", v.table as u64);
+fn print_entry(rt: &impl Print, v: EntryView) -> io::Result<()> {
+    print!(rt; " entry at {} of {}", v.place, v.length)?;
+    print_numbers(rt, v)?;
+    print!(rt; " key {} old {} new {}", v.key_len, v.old_len, v.new_len)
 }
 
-fn print_entry(v: EntryView) {
-    number(b" entry at ", v.place as u64);
-    number(b" of ", v.length as u64);
-    print_numbers(v);
-    number(b" key ", v.key_len as u64);
-    number(b" old ", v.old_len as u64);
-    number(b" new ", v.new_len as u64);
-}
-
-fn print_reading(found: Reading) {
+fn print_reading(rt: &impl Print, found: Reading) -> io::Result<()> {
     match found {
-        Reading::Whole(v) => print_entry(v),
-        Reading::End => {
-            io::write_all(1, b" exact end");
-        }
-        Reading::Torn => {
-            io::write_all(1, b" torn tail");
-        }
-        Reading::Unused => {
-            io::write_all(1, b" unused");
-        }
-        Reading::Damage => {
-            io::write_all(1, b" damage");
-        }
+        Reading::Whole(v) => print_entry(rt, v)?,
+        Reading::End => print!(rt; " exact end")?,
+        Reading::Torn => print!(rt; " torn tail")?,
+        Reading::Unused => print!(rt; " unused")?,
+        Reading::Damage => print!(rt; " damage")?,
     }
-    io::write_all(1, b"\n");
+    println!(rt)
 }
 
-fn print_before(found: Before) {
+fn print_before(rt: &impl Print, found: Before) -> io::Result<()> {
     match found {
-        Before::Found(v) => print_reading(Reading::Whole(v)),
-        Before::Nothing => {
-            io::write_all(1, b" none\n");
-        }
+        Before::Found(v) => print_reading(rt, Reading::Whole(v)),
+        Before::Nothing => println!(rt; " none"),
     }
 }
 
 // A step forward, and the place after it.
-fn forward(log: &[u8], at: usize) -> usize {
+fn forward(rt: &impl Print, log: &[u8], at: usize) -> io::Result<usize> {
     let step = wal::reader::forward_at(log, at);
-    number(b"  forward from ", at as u64);
-    io::write_all(1, b":");
-    let found = step.found;
-    print_reading(found);
-    step.place
+    print!(rt; "  forward from {at}:")?;
+    print_reading(rt, step.found)?;
+    Ok(step.place)
 }
 
 // A step backward, and the place after it.
-fn backward(log: &[u8], at: usize) -> usize {
+fn backward(rt: &impl Print, log: &[u8], at: usize) -> io::Result<usize> {
     let step = wal::reader::backward_at(log, at);
-    number(b"  backward from ", at as u64);
-    io::write_all(1, b":");
-    let found = step.found;
-    print_before(found);
-    step.place
+    print!(rt; "  backward from {at}:")?;
+    print_before(rt, step.found)?;
+    Ok(step.place)
 }
 
 // The refusal of the header, the end of the walk and what stands there.
-fn show(name: &[u8], log: &[u8]) {
-    io::write_all(1, name);
-    number(b": number ", wal::header_fault(log));
+fn show(rt: &impl Print, name: &str, log: &[u8]) -> io::Result<()> {
     let end = wal::end_of(log);
-    number(b", end ", end as u64);
-    io::write_all(1, b",");
-    print_reading(wal::entry_at(log, end));
+    print!(rt; "{name}: number {}, end {end},", wal::header_fault(log))?;
+    print_reading(rt, wal::entry_at(log, end))
 }
 
 // The same of its first n bytes.
-fn show_first(name: &[u8], log: &[u8], n: usize) {
+fn show_first(rt: &impl Print, name: &str, log: &[u8], n: usize) -> io::Result<()> {
     if n <= log.len() {
-        show(name, &log[0..n]);
+        show(rt, name, &log[0..n])?;
     }
+    Ok(())
 }
 
 // What a reader of the log holds, and where it is opened.
-fn opened(log: &[u8]) {
-    number(
-        b"  a reader holds ",
-        wal::reader::kept_part(log).len() as u64,
-    );
-    number(b" bytes, at ", wal::reader::opened_at(log, false) as u64);
-    number(b" or at ", wal::reader::opened_at(log, true) as u64);
-    io::write_all(1, b"\n");
+fn opened(rt: &impl Print, log: &[u8]) -> io::Result<()> {
+    println!(rt;
+        "  a reader holds {} bytes, at {} or at {}",
+        wal::reader::kept_part(log).len(),
+        wal::reader::opened_at(log, false),
+        wal::reader::opened_at(log, true)
+    )
 }
 
 // A reader opened behind the header or at the end, and what it finds by two steps forward and one back.
-fn travel(name: &[u8], log: &[u8], end: bool) {
+fn travel(rt: &impl Print, name: &str, log: &[u8], end: bool) -> io::Result<()> {
     let t = there_and_back(log, end);
-    let first = t.first;
-    let second = t.second;
-    let third = t.third;
-    io::write_all(1, name);
-    number(b": number ", t.number);
-    io::write_all(1, b"\n  forward:");
-    print_reading(first);
-    io::write_all(1, b"  forward:");
-    print_reading(second);
-    io::write_all(1, b"  backward:");
-    print_before(third);
-    number(b"  at ", t.place as u64);
-    io::write_all(1, b"\n");
+    println!(rt; "{name}: number {}", t.number)?;
+    print!(rt; "  forward:")?;
+    print_reading(rt, t.first)?;
+    print!(rt; "  forward:")?;
+    print_reading(rt, t.second)?;
+    print!(rt; "  backward:")?;
+    print_before(rt, t.third)?;
+    println!(rt; "  at {}", t.place)
 }
 
 // ---- cases
 
-fn headers() {
+fn headers(rt: &impl Print) -> io::Result<()> {
     let mut log = [0u8; 32];
-    show(b"no mark", &log);
-    opened(&log);
+    show(rt, "no mark", &log)?;
+    opened(rt, &log)?;
     put_header(&mut log);
-    show(b"header only", &log);
-    opened(&log);
-    show_first(b"31 bytes", &log, 31);
+    show(rt, "header only", &log)?;
+    opened(rt, &log)?;
+    show_first(rt, "31 bytes", &log, 31)?;
     put_u16(&mut log, 4, 2);
-    show(b"version 2", &log);
+    show(rt, "version 2", &log)
 }
 
-fn places() {
+fn places(rt: &impl Print) -> io::Result<()> {
     let mut log = [0u8; 75];
     put_header(&mut log);
     put_entry(&mut log, 32, 1, 0, 0, 0);
-    show(b"a Begin", &log);
-    opened(&log);
-    forward(&log, 0);
-    forward(&log, 31);
-    let at = forward(&log, 32);
-    forward(&log, at);
-    forward(&log, 76);
-    forward(&log, 0xFFFF_FFFF_FFFF_FFFF);
+    show(rt, "a Begin", &log)?;
+    opened(rt, &log)?;
+    forward(rt, &log, 0)?;
+    forward(rt, &log, 31)?;
+    let at = forward(rt, &log, 32)?;
+    forward(rt, &log, at)?;
+    forward(rt, &log, 76)?;
+    forward(rt, &log, 0xFFFF_FFFF_FFFF_FFFF)?;
+    Ok(())
 }
 
-fn places_back() {
+fn places_back(rt: &impl Print) -> io::Result<()> {
     let mut log = [0u8; 75];
     put_header(&mut log);
     put_entry(&mut log, 32, 1, 0, 0, 0);
-    let at = backward(&log, 75);
-    backward(&log, at);
-    backward(&log, 0);
-    backward(&log, 36);
-    backward(&log, 74);
-    backward(&log, 76);
-    backward(&log, 0xFFFF_FFFF_FFFF_FFFF);
+    let at = backward(rt, &log, 75)?;
+    backward(rt, &log, at)?;
+    backward(rt, &log, 0)?;
+    backward(rt, &log, 36)?;
+    backward(rt, &log, 74)?;
+    backward(rt, &log, 76)?;
+    backward(rt, &log, 0xFFFF_FFFF_FFFF_FFFF)?;
+    Ok(())
 }
 
-fn tails() {
+fn tails(rt: &impl Print) -> io::Result<()> {
     let mut log = [0u8; 75];
     put_header(&mut log);
     put_entry(&mut log, 32, 1, 0, 0, 0);
-    show_first(b"header and 42 bytes of a Begin", &log, 74);
-    show_first(b"4 bytes left", &log, 36);
-    show_first(b"3 bytes left", &log, 35);
-    show_first(b"2 bytes left", &log, 34);
-    show_first(b"1 byte left", &log, 33);
+    show_first(rt, "header and 42 bytes of a Begin", &log, 74)?;
+    show_first(rt, "4 bytes left", &log, 36)?;
+    show_first(rt, "3 bytes left", &log, 35)?;
+    show_first(rt, "2 bytes left", &log, 34)?;
+    show_first(rt, "1 byte left", &log, 33)
 }
 
-fn lengths() {
+fn lengths(rt: &impl Print) -> io::Result<()> {
     let mut log = [0u8; 75];
     put_header(&mut log);
     put_u32(&mut log, 32, 42);
-    show(b"length 42", &log);
+    show(rt, "length 42", &log)?;
     put_u32(&mut log, 32, 43);
-    show(b"length 43 of zeros", &log);
+    show(rt, "length 43 of zeros", &log)?;
     put_u32(&mut log, 32, 44);
-    show(b"length 44, one past the end", &log);
+    show(rt, "length 44, one past the end", &log)?;
     put_u32(&mut log, 32, 32705);
-    show(b"length 32705, past the end", &log);
+    show(rt, "length 32705, past the end", &log)?;
     put_u32(&mut log, 32, 32706);
-    show(b"length 32706, past the end", &log);
+    show(rt, "length 32706, past the end", &log)
 }
 
 // A Begin, and zero bytes behind it.
-fn room() {
+fn room(rt: &impl Print) -> io::Result<()> {
     let mut log = [0u8; 80];
     put_header(&mut log);
     put_entry(&mut log, 32, 1, 0, 0, 0);
-    show_first(b"a Begin and 1 zero byte", &log, 76);
-    show_first(b"a Begin and 3 zero bytes", &log, 78);
-    show_first(b"a Begin and 4 zero bytes", &log, 79);
-    show(b"a Begin and 5 zero bytes", &log);
+    show_first(rt, "a Begin and 1 zero byte", &log, 76)?;
+    show_first(rt, "a Begin and 3 zero bytes", &log, 78)?;
+    show_first(rt, "a Begin and 4 zero bytes", &log, 79)?;
+    show(rt, "a Begin and 5 zero bytes", &log)
 }
 
 // The end found by walking is at the zero bytes, and a step backward from it finds the Begin.
-fn room_steps() {
+fn room_steps(rt: &impl Print) -> io::Result<()> {
     let mut log = [0u8; 100];
     put_header(&mut log);
     put_entry(&mut log, 32, 1, 0, 0, 0);
-    show(b"a Begin and 25 zero bytes", &log);
-    opened(&log);
-    let at = forward(&log, 75);
-    backward(&log, at);
-    forward(&log, 96);
-    forward(&log, 97);
+    show(rt, "a Begin and 25 zero bytes", &log)?;
+    opened(rt, &log)?;
+    let at = forward(rt, &log, 75)?;
+    backward(rt, &log, at)?;
+    forward(rt, &log, 96)?;
+    forward(rt, &log, 97)?;
+    Ok(())
 }
 
-fn spoiled_room() {
+fn spoiled_room(rt: &impl Print) -> io::Result<()> {
     let mut log = [0u8; 100];
     put_header(&mut log);
     put_entry(&mut log, 32, 1, 0, 0, 0);
     log[99] = 1;
-    show(b"the last of them 1", &log);
+    show(rt, "the last of them 1", &log)
 }
 
 // Cuts with zero bytes behind them.
-fn cut_room() {
+fn cut_room(rt: &impl Print) -> io::Result<()> {
     let mut log = [0u8; 100];
     put_header(&mut log);
     log[32] = 43;
     show_first(
-        b"a length of 43 cut after its first byte, 3 zero bytes",
+        rt,
+        "a length of 43 cut after its first byte, 3 zero bytes",
         &log,
         36,
-    );
+    )?;
     show(
-        b"a length of 43 cut after its first byte, 67 zero bytes",
+        rt,
+        "a length of 43 cut after its first byte, 67 zero bytes",
         &log,
-    );
+    )?;
     log[32] = 0;
     show(
-        b"a length of 256 cut after its first byte, 67 zero bytes",
+        rt,
+        "a length of 256 cut after its first byte, 67 zero bytes",
         &log,
-    );
+    )?;
     put_entry(&mut log, 32, 1, 0, 0, 0);
     put_u16(&mut log, 72, 0);
     log[74] = 0;
-    show(b"a Begin without its last three bytes, 28 zero bytes", &log);
+    show(
+        rt,
+        "a Begin without its last three bytes, 28 zero bytes",
+        &log,
+    )?;
     log[71] = 0;
-    show(b"a Begin without its last four bytes, 29 zero bytes", &log);
+    show(
+        rt,
+        "a Begin without its last four bytes, 29 zero bytes",
+        &log,
+    )
 }
 
 // The log and its longest entry.
-fn longest() {
+fn longest(rt: &impl Print) -> io::Result<()> {
     let mut log = [7u8; 32737];
     put_header(&mut log);
     put_u32(&mut log, 32, 32705);
@@ -316,14 +299,14 @@ fn longest() {
     put_inner(&mut log, 32, 0, 0, 0);
     put_u32(&mut log, 63, 32662);
     seal(&mut log, 32, 32705);
-    show(b"an entry of 32705 bytes", &log);
-    forward(&log, 32);
-    backward(&log, 32737);
-    show_first(b"its last byte cut off", &log, 32736);
+    show(rt, "an entry of 32705 bytes", &log)?;
+    forward(rt, &log, 32)?;
+    backward(rt, &log, 32737)?;
+    show_first(rt, "its last byte cut off", &log, 32736)
 }
 
 // One byte more, and sealed.
-fn longer() {
+fn longer(rt: &impl Print) -> io::Result<()> {
     let mut log = [7u8; 32738];
     put_header(&mut log);
     put_u32(&mut log, 32, 32706);
@@ -331,100 +314,108 @@ fn longer() {
     put_inner(&mut log, 32, 0, 0, 0);
     put_u32(&mut log, 63, 32663);
     seal(&mut log, 32, 32706);
-    show(b"an entry of 32706 bytes", &log);
-    backward(&log, 32738);
+    show(rt, "an entry of 32706 bytes", &log)?;
+    backward(rt, &log, 32738)?;
+    Ok(())
 }
 
-fn damages() {
+fn damages(rt: &impl Print) -> io::Result<()> {
     let mut log = [0u8; 80];
     put_header(&mut log);
     put_entry(&mut log, 32, 2, 3, 2, 0);
-    show(b"an entry of 48 bytes", &log);
+    show(rt, "an entry of 48 bytes", &log)?;
     log[40] = 0xFF;
-    show(b"a byte of its LSN changed", &log);
+    show(rt, "a byte of its LSN changed", &log)?;
     put_entry(&mut log, 32, 2, 3, 2, 0);
     put_u32(&mut log, 72, 0);
-    show(b"another checksum", &log);
+    show(rt, "another checksum", &log)?;
     put_entry(&mut log, 32, 2, 3, 2, 0);
     put_u32(&mut log, 76, 47);
-    show(b"another last length", &log);
+    show(rt, "another last length", &log)
 }
 
-fn inner_damages() {
+fn inner_damages(rt: &impl Print) -> io::Result<()> {
     let mut log = [0u8; 80];
     put_header(&mut log);
     put_entry(&mut log, 32, 2, 3, 2, 0);
     put_u16(&mut log, 57, 4);
     seal(&mut log, 32, 48);
-    show(b"a key length of one more, sealed", &log);
+    show(rt, "a key length of one more, sealed", &log)?;
     put_entry(&mut log, 32, 2, 3, 2, 0);
     put_u32(&mut log, 62, 0xFFFF_FFFF);
     seal(&mut log, 32, 48);
-    show(b"an old length past the entry, sealed", &log);
+    show(rt, "an old length past the entry, sealed", &log)?;
     put_entry(&mut log, 32, 2, 3, 2, 0);
     put_u32(&mut log, 68, 1);
     seal(&mut log, 32, 48);
-    show(b"a new length of one more, sealed", &log);
+    show(rt, "a new length of one more, sealed", &log)
 }
 
-fn two_entries() {
+fn two_entries(rt: &impl Print) -> io::Result<()> {
     let mut log = [0u8; 140];
     put_header(&mut log);
     put_entry(&mut log, 32, 1, 0, 0, 0);
     put_entry(&mut log, 75, 10, 10, 2, 7);
-    show(b"two entries and 3 bytes", &log);
-    opened(&log);
-    let a = forward(&log, 32);
-    let b = forward(&log, a);
-    let c = forward(&log, b);
-    let d = backward(&log, c);
-    let e = backward(&log, d);
-    backward(&log, e);
+    show(rt, "two entries and 3 bytes", &log)?;
+    opened(rt, &log)?;
+    let a = forward(rt, &log, 32)?;
+    let b = forward(rt, &log, a)?;
+    let c = forward(rt, &log, b)?;
+    let d = backward(rt, &log, c)?;
+    let e = backward(rt, &log, d)?;
+    backward(rt, &log, e)?;
+    Ok(())
 }
 
 // The new value of the entry at 32 holds a whole entry, of the bytes 85 to 128.
-fn image() {
+fn image(rt: &impl Print) -> io::Result<()> {
     let mut log = [0u8; 145];
     put_header(&mut log);
     put_entry(&mut log, 85, 1, 0, 0, 0);
     put_entry(&mut log, 32, 4, 10, 0, 60);
-    show(b"a row image that holds a whole entry", &log);
-    let a = forward(&log, 32);
-    let b = backward(&log, a);
-    backward(&log, b);
-    let c = backward(&log, 128);
-    backward(&log, c);
+    show(rt, "a row image that holds a whole entry", &log)?;
+    let a = forward(rt, &log, 32)?;
+    let b = backward(rt, &log, a)?;
+    backward(rt, &log, b)?;
+    let c = backward(rt, &log, 128)?;
+    backward(rt, &log, c)?;
+    Ok(())
 }
 
 // Two entries and three bytes of a third: refused without its header, torn, and without those bytes.
-fn readers() {
+fn readers(rt: &impl Print) -> io::Result<()> {
     let mut log = [0u8; 140];
     put_entry(&mut log, 32, 1, 0, 0, 0);
     put_entry(&mut log, 75, 10, 10, 2, 7);
-    travel(b"a reader of a log that is refused", &log, false);
-    travel(b"the same, from its end", &log, true);
+    travel(rt, "a reader of a log that is refused", &log, false)?;
+    travel(rt, "the same, from its end", &log, true)?;
     put_header(&mut log);
-    travel(b"a reader of a torn log", &log, false);
-    travel(b"the same, from its end", &log, true);
-    travel(b"a reader of a log with an exact end", &log[0..137], false);
-    travel(b"the same, from its end", &log[0..137], true);
+    travel(rt, "a reader of a torn log", &log, false)?;
+    travel(rt, "the same, from its end", &log, true)?;
+    travel(
+        rt,
+        "a reader of a log with an exact end",
+        &log[0..137],
+        false,
+    )?;
+    travel(rt, "the same, from its end", &log[0..137], true)
 }
 
-fn main() {
-    headers();
-    places();
-    places_back();
-    tails();
-    lengths();
-    room();
-    room_steps();
-    spoiled_room();
-    cut_room();
-    longest();
-    longer();
-    damages();
-    inner_damages();
-    two_entries();
-    image();
-    readers();
+fn main(rt: HostRuntime) -> io::Result<()> {
+    headers(&rt)?;
+    places(&rt)?;
+    places_back(&rt)?;
+    tails(&rt)?;
+    lengths(&rt)?;
+    room(&rt)?;
+    room_steps(&rt)?;
+    spoiled_room(&rt)?;
+    cut_room(&rt)?;
+    longest(&rt)?;
+    longer(&rt)?;
+    damages(&rt)?;
+    inner_damages(&rt)?;
+    two_entries(&rt)?;
+    image(&rt)?;
+    readers(&rt)
 }
