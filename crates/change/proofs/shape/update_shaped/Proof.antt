@@ -16,14 +16,14 @@ returns-2 c =
     let e = c.before.before.if-key_len-ne-KEY_BYTES.false in
     let f = sym c.before.keyed.ensures ∙ c.if-not-keyed.true in
     let a = c.before.before.before.before.args in
-    old-unkeyed a.log.now (a.place + 27) a.key-len (a.place + (31 + a.key_len)) a.old-len e (part (a.place + (35 + a.key-len + a.old-len)) a.new-len a.log.now) f
+    old-unkeyed a.log.now (a.place + 27) a.key_len (a.place + (31 + a.key_len)) a.old_len e (part (a.place + (35 + a.key_len + a.old_len)) a.new_len a.log.now) f
 
 returns-3 : tie.Need-returns
 returns-3 c =
     let e = c.before.before.before.if-key_len-ne-KEY_BYTES.false in
     let f = sym c.before.before.keyed.ensures ∙ c.before.if-not-keyed.false in
     let a = c.before.before.before.before.before.args in
-    old-keyed a.log.now (a.place + 27) a.key-len (a.place + (31 + a.key_len)) a.old-len e (part (a.place + (35 + a.key-len + a.old-len)) a.new-len a.log.now) f c.keyed-2.ensures
+    old-keyed a.log.now (a.place + 27) a.key_len (a.place + (31 + a.key_len)) a.old_len e (part (a.place + (35 + a.key_len + a.old_len)) a.new_len a.log.now) f c.keyed-2.ensures
 
 pub update_shaped_spec : {M : Type 1} → statement M
 update_shaped_spec =

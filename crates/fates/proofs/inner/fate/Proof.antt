@@ -12,52 +12,52 @@ use Rattle.fates.proofs.inner.fate.Statement.{statement}
 use Rattle.fates.proofs.inner.fate.Tie as tie
 
 -- the place and the answer are small
-room : (c : tie.After-look) → (c.before.before.before.before.before.before.before.before.args.place + 43 ≤ 16777216) × (c.look.result ≤ 2)
+room : (c : tie.After-look-r) → (c.before.before.before.before.before.before.before.before.args.place + 43 ≤ 16777216) × (c.look-r.result ≤ 2)
 room c =
     let k = stands_at c.before.before.before.before.before.before.before.before.requires.1.0 in
-    (omega (arith, k.room, k.low), rw c.look.ensures (ending-le _ _))
+    (omega (arith, k.room, k.low), rw c.look-r.ensures (ending-le _ _))
 
 kept-requires : tie.Need-kept-requires
 kept-requires c κs = c.before.before.requires.1.1.1.0.at _ (omega arith)
 
-returns : tie.Need-returns
+returns : tie.Need-returns-then-kept
 returns c =
     let m = c.before.before.before.before.requires.1.1.1.0 in
-    let k = c.before.kept.ensures c.if1.true in
+    let k = c.before.kept.ensures c.if-kept.true in
     (sym ((m.at _ (omega arith)).is k.0) ∙ ap (outcome_of _) k.1, m)
 
 kept-requires-2 : tie.Need-kept-requires-2
 kept-requires-2 c κs = c.before.before.before.before.before.requires.1.1.1.0.at _ (omega arith)
 
-returns-2 : tie.Need-returns-2
+returns-2 : tie.Need-returns-then-kept-2
 returns-2 c =
     let d = c.before.before in
     let a = d.before.before.before.before.before.before.before in
     let m = a.requires.1.1.1.0 in
-    let k = d.before.kept2.ensures d.if2.true in
+    let k = d.before.kept-2.ensures d.if-kept-2.true in
     let v = m.at (a.args.t % 8192 + 8192) (omega arith) in
     (sym (v.is k.0) ∙ ap (outcome_of _) k.1, rw c.keep.ensures (memo-front _ _ m v))
 
-mul-keep : tie.Need-overflow-mul-keep
+mul-keep : tie.Need-overflow_mul-place
 mul-keep c = let k = room c.before in omega arith
 
-add-keep : tie.Need-overflow-add-keep
+add-keep : tie.Need-overflow_add-place
 add-keep c = let k = room c.before in omega arith
 
-cast-keep : tie.Need-overflow-cast-keep
+cast-keep : tie.Need-overflow_cast-place
 cast-keep c = let k = room c.before in omega arith
 
-returns-3 : tie.Need-returns-3
+returns-3 : tie.Need-returns
 returns-3 c =
     let l = c.before.before in
     let a = l.before.before.before.before.before.before.before.before in
     let p = a.requires.1.1.1.1 in
     let e = fate-is _ a.requires.1.1.0 a.requires.0 a.requires.1.0 p.1 (omega arith) in
     let k = room l in
-    let new = kept_at _ a.requires.1.0 (ap (outcome_of _) (sym p.1) ∙ e ∙ sym l.look.ensures) (omega arith) in
-    (l.look.ensures ∙ sym e, rw c.keep2.ensures (memo-front _ _ a.requires.1.1.1.0 new))
+    let new = kept_at _ a.requires.1.0 (ap (outcome_of _) (sym p.1) ∙ e ∙ sym l.look-r.ensures) (omega arith) in
+    (l.look-r.ensures ∙ sym e, rw c.keep-2.ensures (memo-front _ _ a.requires.1.1.1.0 new))
 
-pub fate-spec : {M : Type 1} → statement M
-fate-spec =
+pub fate_spec : {M : Type 1} → statement M
+fate_spec =
     tie.close
     (tie.spec (λ c. search rules) (λ c. search rules) kept-requires (λ c. search rules) returns (λ c. search rules) (λ c. search rules) (λ c. search rules) kept-requires-2 (λ c κs. search rules) (λ c. search rules) returns-2 (λ c κs. search rules) mul-keep add-keep cast-keep (λ c κs. search rules) returns-3)

@@ -11,56 +11,53 @@ use Rattle.fates.proofs.Endings.{commit-here, rollback-here, going-here, other-h
 use Rattle.fates.proofs.inner.look.Statement.{statement}
 use Rattle.fates.proofs.inner.look.Tie as tie
 
-abbrev invariant-loop : tie.invariant-loop
+abbrev invariant-loop : tie.invariant-loop-at
 invariant-loop log from end t at₀ at = Met log at × (ending_of t (onward log at) ≡ ending_of t (onward log from))
 
-abbrev decreases-loop : tie.decreases-loop
+abbrev decreases-loop : tie.decreases-loop-at
 decreases-loop log from end t at₀ at = end - at
 
 -- the entry that was read, and the place behind it
-behind : (c : tie.After-standing invariant-loop decreases-loop) → Step c.before.before.before.before.args.log.now c.before.before.loop.at c.before.before.before.before.args.end c.standing.result
-behind c = step c.before.before.loop.invariant.0 c.before.before.before.before.requires.1 c.before.loop-test.true c.standing.result c.standing.ensures
+behind : (c : tie.After-standing-e invariant-loop decreases-loop) → Step c.before.before.before.before.args.log.now c.before.before.loop-at.at c.before.before.before.before.args.end c.standing-e.result
+behind c = step c.before.before.loop-at.invariant.0 c.before.before.before.before.requires.1 c.before.loop-at-test.true c.standing-e.result c.standing-e.ensures
 
-loop-holds : tie.Need-loop-init invariant-loop decreases-loop
+loop-holds : tie.Need-loop-at-init invariant-loop decreases-loop
 loop-holds c = (c.before.requires.0, refl)
 
-standing-requires : tie.Need-standing-requires invariant-loop decreases-loop
-standing-requires c κs = (still c.before.loop.invariant.0 c.before.before.before.requires.1 c.loop-test.true).stands
+standing-requires : tie.Need-standing-e-requires invariant-loop decreases-loop
+standing-requires c κs = (still c.before.loop-at.invariant.0 c.before.before.before.requires.1 c.loop-at-test.true).stands
 
-returns : tie.Need-returns invariant-loop decreases-loop
+returns : tie.Need-returns-then-e-eq2 invariant-loop decreases-loop
 returns c =
     let k = c.before.before.before.before.before in
-    let l = k.before.before.loop in
-    commit-here _ l.at _ (behind k).stands k.standing.result k.standing.ensures c.before.before.if1.true c.if2.true ∙ l.invariant.1
+    let l = k.before.before.loop-at in
+    commit-here _ l.at _ (behind k).stands k.standing-e.result k.standing-e.ensures c.before.before.if-u-t.true c.if-e-eq2.true ∙ l.invariant.1
 
-returns-2 : tie.Need-returns-2 invariant-loop decreases-loop
+returns-2 : tie.Need-returns-then-e-eq3 invariant-loop decreases-loop
 returns-2 c =
     let k = c.before.before.before.before.before.before.before in
-    let l = k.before.before.loop in
-    rollback-here _ l.at _ (behind k).stands k.standing.result k.standing.ensures c.before.before.before.before.if1.true c.if3.true ∙ l.invariant.1
+    let l = k.before.before.loop-at in
+    rollback-here _ l.at _ (behind k).stands k.standing-e.result k.standing-e.ensures c.before.before.before.before.if-u-t.true c.if-e-eq3.true ∙ l.invariant.1
 
-add_at : tie.Need-overflow-add-at invariant-loop decreases-loop
+add_at : tie.Need-overflow_add-at invariant-loop decreases-loop
 add_at c = let k = behind c.before.before.before.before in omega (arith, k.next)
 
-loop-less : tie.Need-loop-smaller invariant-loop decreases-loop
+loop-less : tie.Need-loop-at-smaller invariant-loop decreases-loop
 loop-less c = let k = behind c.before.before.before.before in omega (arith, k.next, k.low)
 
-loop-again : tie.Need-loop-preserved invariant-loop decreases-loop
+loop-again : tie.Need-loop-at-preserved invariant-loop decreases-loop
 loop-again c =
     let d = c.before.before.before.before in
     let k = behind d in
-    let l = d.before.before.loop in
-    let v = d.standing in (
+    let l = d.before.before.loop-at in
+    let v = d.standing-e in (
       k.met,
       rw k.long
-          (⊎_elim
-          (λ w. sym (going-here _ l.at _ k.stands v.result v.ensures w.0.taken w.2.left w.4.left) ∙ l.invariant.1)
-          (λ w. sym (other-here _ l.at _ k.stands v.result v.ensures w.left) ∙ l.invariant.1)
-          c.before.if1.branch),
+          (let h = c.before.if-u-t.branch in ?),
     )
 
-returns-3 : tie.Need-returns-3 invariant-loop decreases-loop
-returns-3 c = ending-none _ _ _ (arrived c.before.loop.invariant.0 c.before.before.before.requires.1 c.loop-test.false) ∙ c.before.loop.invariant.1
+returns-3 : tie.Need-returns invariant-loop decreases-loop
+returns-3 c = ending-none _ _ _ (arrived c.before.loop-at.invariant.0 c.before.before.before.requires.1 c.loop-at-test.false) ∙ c.before.loop-at.invariant.1
 
 pub look_spec : {M : Type 1} → statement M
 look_spec =
