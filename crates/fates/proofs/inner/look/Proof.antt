@@ -10,6 +10,7 @@ use Rattle.fates.proofs.Turns.{Step, step, still, arrived}
 use Rattle.fates.proofs.Endings.{commit-here, rollback-here, going-here, other-here, ending-none}
 use Rattle.fates.proofs.inner.look.Statement.{statement}
 use Rattle.fates.proofs.inner.look.Tie as tie
+use Rattle.fates.proofs.inner.look.Lts.{then-u-t+else-e-eq2+else-e-eq3, else-u-t}
 
 abbrev invariant-loop : tie.invariant-loop-at
 invariant-loop log from end t at₀ at = Met log at × (ending_of t (onward log at) ≡ ending_of t (onward log from))
@@ -53,7 +54,11 @@ loop-again c =
     let v = d.standing-e in (
       k.met,
       rw k.long
-          (let h = c.before.if-u-t.branch in ?),
+          (elim c.if-u-t.branch [
+            | then-u-t+else-e-eq2+else-e-eq3 w ↦
+              sym (going-here _ l.at _ k.stands v.result v.ensures w.if-u-t.true w.if-e-eq2.false w.if-e-eq3.false) ∙ l.invariant.1
+            | else-u-t w ↦ sym (other-here _ l.at _ k.stands v.result v.ensures w.if-u-t.false) ∙ l.invariant.1
+          ]),
     )
 
 returns-3 : tie.Need-returns invariant-loop decreases-loop

@@ -5,11 +5,11 @@ use Rattle.order.specs.Scanning.{wrong, others}
 use Rattle.order.proofs.inner.joined.Statement.{statement}
 use Rattle.order.proofs.inner.joined.Tie as tie
 
-returns : tie.Need-returns
-returns c = wrong c.if1.true refl refl
+returns : tie.Need-returns-then-place-s
+returns c = wrong c.if-place-s.true refl refl
 
-returns-2 : tie.Need-returns-2
-returns-2 c = others c.before.before.if1.false refl refl refl
+returns-2 : tie.Need-returns
+returns-2 c = others c.before.before.if-place-s.false refl refl refl
 
-pub joined-spec : {M : Type 1} → statement M
-joined-spec = tie.close (tie.spec returns returns-2)
+pub joined_spec : {M : Type 1} → statement M
+joined_spec = tie.close (tie.spec returns returns-2)

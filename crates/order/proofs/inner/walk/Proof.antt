@@ -5,18 +5,18 @@ use Rattle.order.proofs.Joining.{walked}
 use Rattle.order.proofs.inner.walk.Statement.{statement}
 use Rattle.order.proofs.inner.walk.Tie as tie
 
-returns : tie.Need-returns
+returns : tie.Need-returns-then-s
 returns c =
-    let r = c.before.before.scan in
-    walked _ _ r.result _ r.ensures.0 (r.ensures.1 c.before.if1.true) c.joined.ensures
+    let r = c.before.before.scan-s in
+    walked _ _ r.result _ r.ensures.0 (r.ensures.1 c.before.if-s.true) c.joined.ensures
 
-by-blocks-requires : tie.Need-by-blocks-requires
-by-blocks-requires c κs = let p = c.before.before.before.before.before.before.before.requires in (p.1.0, (p.1.1, c.before.before.before.scan.ensures.0.met_stop))
+by-blocks-requires : tie.Need-by_blocks-place-requires
+by-blocks-requires c κs = let p = c.before.before.before.before.before.before.before.requires in (p.1.0, (p.1.1, c.before.before.before.scan-s.ensures.0.met_stop))
 
-returns-2 : tie.Need-returns-2
+returns-2 : tie.Need-returns
 returns-2 c =
-    let r = c.before.before.before.before.before.before.before.before.before.scan in
-    walked _ _ r.result _ r.ensures.0 c.before.before.before.before.before.by_blocks.ensures c.joined2.ensures
+    let r = c.before.before.before.before.before.before.before.before.before.scan-s in
+    walked _ _ r.result _ r.ensures.0 c.before.before.before.before.before.by_blocks-place.ensures c.joined-2.ensures
 
-pub walk-spec : {M : Type 1} → statement M
-walk-spec = tie.close (tie.spec (λ c κs. search rules) (λ c κs. search rules) returns by-blocks-requires (λ c κs. search rules) (λ c. search rules) (λ c. search rules) returns-2)
+pub walk_spec : {M : Type 1} → statement M
+walk_spec = tie.close (tie.spec (λ c κs. search rules) (λ c κs. search rules) returns by-blocks-requires (λ c κs. search rules) (λ c. search rules) (λ c. search rules) returns-2)

@@ -13,56 +13,56 @@ use Rattle.order.proofs.Gathering.{gathered-first}
 use Rattle.order.proofs.inner.block.collect.Statement.{statement}
 use Rattle.order.proofs.inner.block.collect.Tie as tie
 
-abbrev invariant-loop : tie.invariant-loop
+abbrev invariant-loop : tie.invariant-loop-v
 invariant-loop log begins₀ ends₀ lo stop held₀ at₀ begins ends held at = (length begins ≡ length begins₀) × (length ends ≡ length ends₀) × Met log at × (at ≤ stop) × Gathered log lo.0 at held begins ends
 
-abbrev decreases-loop : tie.decreases-loop
+abbrev decreases-loop : tie.decreases-loop-v
 decreases-loop log begins₀ ends₀ lo stop held₀ at₀ begins ends held at = stop - at
 
-loop-holds : tie.Need-loop-init invariant-loop decreases-loop
+loop-holds : tie.Need-loop-v-init invariant-loop decreases-loop
 loop-holds c =
-    let n = c.nothing.ensures in
-    (refl, refl, met-first _, met-from _ c.before.before.before.before.requires.1.1, gathered-first c.before.before.before.before.args.lo.0 c.nothing.result c.before.before.before.before.args.begins.now c.before.before.before.before.args.ends.now (omega arith) n.0 n.1 n.2 n.3)
+    let n = c.nothing-held.ensures in
+    (refl, refl, met-first _, met-from _ c.before.before.before.before.requires.1.1, gathered-first c.before.before.before.before.args.lo.0 c.nothing-held.result c.before.before.before.before.args.begins.now c.before.before.before.before.args.ends.now (omega arith) n.0 n.1 n.2 n.3)
 
-known-at-requires : tie.Need-known-at-requires invariant-loop decreases-loop
-known-at-requires c κs = still c.loop.invariant.2 c.before.before.before.before.before.requires.1.1
+known-at-requires : tie.Need-known_at-requires invariant-loop decreases-loop
+known-at-requires c κs = still c.loop-v.invariant.2 c.before.before.before.before.before.requires.1.1
 
-returns : tie.Need-returns invariant-loop decreases-loop
+returns : tie.Need-returns-in_default invariant-loop decreases-loop
 returns c =
-    let l = c.before.before.loop in
+    let l = c.before.before.loop-v in
     let s = c.before.before.before.before.before.before.before in
-    let e : l.at ≡ s.args.stop = omega (arith, known-stops _ _ _ _ c.before.known_at_lem.ensures c.match.keys2, l.invariant.3) in
-    subst (λ (x : ℕ). Gathered s.args.log.now s.args.lo.0 x l.held l.begins l.ends) e l.invariant.4
+    let e : l.at ≡ s.args.stop = omega (arith, known-stops _ _ _ _ c.before.known_at_lem.ensures c.in_default.in_default-own.keys2, l.invariant.3) in
+    subst (λ (x : ℕ). Gathered s.args.log.now s.args.lo.0 x l.held l.begins-1 l.ends-1) e l.invariant.4
 
 -- the entry that was read, and the place behind it
-behind : (c : tie.After-v invariant-loop decreases-loop) → Ahead c.before.before.before.before.before.before.before.before.args.log.now c.before.before.before.loop.at c.before.before.before.before.before.before.before.before.args.stop c.v.given.0.0
-behind c = ahead-found c.before.before.before.loop.invariant.2 c.before.before.before.before.before.before.before.before.requires.1.1 c.before.before.known_at_lem.ensures c.v.given.1
+behind : (c : tie.In-Whole invariant-loop decreases-loop) → Ahead c.before.before.before.before.before.before.before.args.log.now c.before.before.loop-v.at c.before.before.before.before.before.before.before.args.stop c.in-Whole.v
+behind c = ahead-found c.before.before.loop-v.invariant.2 c.before.before.before.before.before.before.before.requires.1.1 c.before.known_at_lem.ensures c.in-Whole.is
 
-take-in-requires : tie.Need-take-in-requires invariant-loop decreases-loop
+take-in-requires : tie.Need-take_in-held-requires invariant-loop decreases-loop
 take-in-requires c κs =
-    let k = behind c.before.before.before in
-    let i = c.before.before.before.before.before.before.loop.invariant in
-    let s = c.before.before.before.before.before.before.before.before.before.before.before in
+    let k = behind c.before.before in
+    let i = c.before.before.before.before.loop-v.invariant in
+    let s = c.before.before.before.before.before.before.before.before.before in
     (s.requires.0, ((omega (arith, i.0, s.requires.1.0.0), omega (arith, i.1, s.requires.1.0.1)), (i.2, (k.stands, (view-kind _ _ k.is, i.4)))))
 
-add_at : tie.Need-overflow-add-at invariant-loop decreases-loop
+add_at : tie.Need-overflow_add-at invariant-loop decreases-loop
 add_at c =
-    let k = behind c.before.before.before.before.before.before.before.before.before in
-    let s = c.before.before.before.before.before.before.before.before.before.before.before.before.before.before.before.before.before in
+    let k = behind c.before.before.before.before.before.before.before.before in
+    let s = c.before.before.before.before.before.before.before.before.before.before.before.before.before.before.before in
     omega (arith, k.next, met-small _ s.requires.1.1, s.requires.0)
 
-loop-less : tie.Need-loop-smaller invariant-loop decreases-loop
-loop-less c = let k = behind c.before.before.before.before.before.before.before.before.before in omega (arith, k.next, k.low)
+loop-less : tie.Need-loop-v-smaller invariant-loop decreases-loop
+loop-less c = let k = behind c.before.before.before.before.before.before.before.before in omega (arith, k.next, k.low)
 
-loop-again : tie.Need-loop-preserved invariant-loop decreases-loop
+loop-again : tie.Need-loop-v-preserved invariant-loop decreases-loop
 loop-again c =
-    let k = behind c.before.before.before.before.before.before.before.before.before in
-    let l = c.before.before.before.before.before.before.before.before.before.before.before.before.loop in
-    let t = c.before.before.before.before.before.take_in in
-    let s = c.before.before.before.before.before.before.before.before.before.before.before.before.before.before.before.before.before in
-    (t.auto.1.0 ∙ l.invariant.0, t.auto.1.1.0 ∙ l.invariant.1, k.met, k.next, subst (λ (x : ℕ). Gathered s.args.log.now s.args.lo.0 (l.at + x) t.result t.new.1.0 t.new.1.1.0) (sym k.long) t.ensures)
+    let k = behind c.before.before.before.before.before.before.before.before in
+    let l = c.before.before.before.before.before.before.before.before.before.before.loop-v in
+    let t = c.before.before.before.before.before.take_in-held in
+    let s = c.before.before.before.before.before.before.before.before.before.before.before.before.before.before.before in
+    (t.auto.begins ∙ l.invariant.0, t.auto.ends ∙ l.invariant.1, k.met, k.next, subst (λ (x : ℕ). Gathered s.args.log.now s.args.lo.0 (l.at + x) t.result t.new.begins t.new.ends) (sym k.long) t.ensures)
 
-pub collect-spec : {M : Type 1} → statement M
-collect-spec =
+pub collect_spec : {M : Type 1} → statement M
+collect_spec =
     tie.close
-    (tie.spec invariant-loop decreases-loop (λ c κs. search rules) loop-holds known-at-requires (λ c. search rules) (λ c. c.before.before.loop.invariant.0) (λ c. c.before.before.loop.invariant.1) returns take-in-requires add_at loop-less loop-again)
+    (tie.spec invariant-loop decreases-loop (λ c κs. search rules) loop-holds known-at-requires (λ c. search rules) (λ c. c.before.before.loop-v.invariant.0) (λ c. c.before.before.loop-v.invariant.1) returns take-in-requires add_at loop-less loop-again)

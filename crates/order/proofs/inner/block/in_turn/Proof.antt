@@ -12,31 +12,31 @@ use Rattle.order.proofs.Wrongs.{turn-begin, turn-none, turn-open}
 use Rattle.order.proofs.inner.block.in_turn.Statement.{statement}
 use Rattle.order.proofs.inner.block.in_turn.Tie as tie
 
-near-requires : tie.Need-near-requires
+near-requires : tie.Need-near-b-requires
 near-requires c κs = let p = c.before.before.before.before.requires.1.1 in (p.begin_places, p.begins_rise)
 
-started : (c : tie.After-is-before) → c.is-before.result ≡ begun (before c.before.before.before.before.before.before.args.log.now c.before.before.before.before.before.before.args.at) c.before.before.before.before.before.before.args.t.0
+started : (c : tie.After-is_before-started) → c.is_before-started.result ≡ begun (before c.before.before.before.before.before.before.args.log.now c.before.before.before.before.before.before.args.at) c.before.before.before.before.before.before.args.t.0
 started c =
     let s = c.before.before.before.before.before.before in
     let b = s.requires.1.0 in
-    c.is-before.ensures ∙ ap (λ (q : ℕ). is_before q s.args.at) c.before.near.ensures ∙ sym (s.requires.1.1.tells_begun s.args.t.0 s.args.at b.1 b.2 s.requires.0 b.0)
+    c.is_before-started.ensures ∙ ap (λ (q : ℕ). is_before q s.args.at) c.before.near-b.ensures ∙ sym (s.requires.1.1.tells_begun s.args.t.0 s.args.at b.1 b.2 s.requires.0 b.0)
 
-returns : tie.Need-returns
-returns c = turn-begin _ _ _ (started c.before) c.if1.true
+returns : tie.Need-returns-then-kind-eq-BEGIN
+returns c = turn-begin _ _ _ (started c.before) c.if-kind-eq-BEGIN.true
 
-returns-2 : tie.Need-returns-2
-returns-2 c = turn-none _ _ _ (started c.before.before) c.before.if1.false (not-true c.before.before.is-before.result c.if2.true)
+returns-2 : tie.Need-returns-then-not-started
+returns-2 c = turn-none _ _ _ (started c.before.before) c.before.if-kind-eq-BEGIN.false (not-true c.before.before.is_before-started.result c.if-not-started.true)
 
-near-requires-2 : tie.Need-near-requires-2
+near-requires-2 : tie.Need-near-e-requires
 near-requires-2 c κs = let p = c.before.before.before.before.before.before.before.before.before.requires.1.1 in (p.end_places, p.ends_rise)
 
-returns-3 : tie.Need-returns-3
+returns-3 : tie.Need-returns
 returns-3 c =
     let s = c.before.before.before.before.before.before.before.before.before.before.before in
     let b = s.requires.1.0 in
-    let over : c.is-before2.result ≡ ended (before s.args.log.now s.args.at) s.args.t.0 =
-    c.is-before2.ensures ∙ ap (λ (q : ℕ). is_before q s.args.at) c.before.near2.ensures ∙ sym (s.requires.1.1.tells_ended s.args.t.0 s.args.at b.1 b.2 s.requires.0 b.0) in
-    turn-open _ _ _ (started c.before.before.before.before.before) c.before.before.before.before.if1.false (not-false c.before.before.before.before.before.is-before.result c.before.before.before.if2.false) over
+    let over : c.is_before.result ≡ ended (before s.args.log.now s.args.at) s.args.t.0 =
+    c.is_before.ensures ∙ ap (λ (q : ℕ). is_before q s.args.at) c.before.near-e.ensures ∙ sym (s.requires.1.1.tells_ended s.args.t.0 s.args.at b.1 b.2 s.requires.0 b.0) in
+    turn-open _ _ _ (started c.before.before.before.before.before) c.before.before.before.before.if-kind-eq-BEGIN.false (not-false c.before.before.before.before.before.is_before-started.result c.before.before.before.if-not-started.false) over
 
-pub in-turn-spec : {M : Type 1} → statement M
-in-turn-spec = tie.close (tie.spec near-requires (λ c κs. search rules) returns returns-2 near-requires-2 (λ c κs. search rules) returns-3)
+pub in_turn_spec : {M : Type 1} → statement M
+in_turn_spec = tie.close (tie.spec near-requires (λ c κs. search rules) returns returns-2 near-requires-2 (λ c κs. search rules) returns-3)

@@ -19,5 +19,5 @@ other Torn k = refl
 other Unused k = refl
 other Damage k = absurd (miss (0 ∷ 1 ∷ 2 ∷ 3 ∷ []) 4 tt k)
 
-pub end-number-spec : {M : Type 1} → statement M
-end-number-spec = tie.close (tie.spec (λ c. search rules) (λ c. other c.before.args.found c.match.keys2) (λ c. search rules))
+pub end_number_spec : {M : Type 1} → statement M
+end_number_spec = tie.close (tie.spec (λ c. search rules) (λ c. other c.before.args.found c.in_default.in_default-own.keys2) (λ c. search rules))

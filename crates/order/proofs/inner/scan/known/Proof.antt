@@ -42,17 +42,17 @@ low (suc (suc (suc (suc (suc (suc k)))))) a b c =
       ne_eqb n 10 a,
     ))
 
-returns : tie.Need-returns
-returns c = is-ten _ c.if1.true
+returns : tie.Need-returns-then-kind-eq10
+returns c = is-ten _ c.if-kind-eq10.true
 
-returns-2 : tie.Need-returns-2
-returns-2 c = is-seven _ c.if2.true
+returns-2 : tie.Need-returns-then-kind-eq7
+returns-2 c = is-seven _ c.if-kind-eq7.true
 
-returns-3 : tie.Need-returns-3
-returns-3 c = is_zero _ c.if3.true
+returns-3 : tie.Need-returns-then-kind-eq0
+returns-3 c = is_zero _ c.if-kind-eq0.true
 
-returns-4 : tie.Need-returns-4
-returns-4 c = low _ c.before.before.if1.false c.before.if2.false c.if3.false
+returns-4 : tie.Need-returns
+returns-4 c = low _ c.before.before.if-kind-eq10.false c.before.if-kind-eq7.false c.if-kind-eq0.false
 
-pub known-spec : {M : Type 1} → statement M
-known-spec = tie.close (tie.spec returns returns-2 returns-3 returns-4)
+pub known_spec : {M : Type 1} → statement M
+known_spec = tie.close (tie.spec returns returns-2 returns-3 returns-4)

@@ -18,79 +18,79 @@ use Rattle.order.proofs.Scans.{scanning-first, scanning-next, halts-early, halts
 use Rattle.order.proofs.inner.scan.scan.Statement.{statement}
 use Rattle.order.proofs.inner.scan.scan.Tie as tie
 
-abbrev invariant-loop : tie.invariant-loop
+abbrev invariant-loop : tie.invariant-loop-v
 invariant-loop t log bounded records at₀ seen₀ turns₀ opens₀ at seen turns opens = Scanning (full_of bounded records) log at seen × (turns.sure ≡ true → Turning log at turns.highest.0 opens)
 
-abbrev decreases-loop : tie.decreases-loop
+abbrev decreases-loop : tie.decreases-loop-v
 decreases-loop t log bounded records at₀ seen₀ turns₀ opens₀ at seen turns opens = length log - at
 
-loop-holds : tie.Need-loop-init invariant-loop decreases-loop
+loop-holds : tie.Need-loop-v-init invariant-loop decreases-loop
 loop-holds c = (scanning-first _ _, λ z. turning-first _)
 
-entry-at-requires : tie.Need-entry-at-requires invariant-loop decreases-loop
+entry-at-requires : tie.Need-entry_at-found-requires invariant-loop decreases-loop
 entry-at-requires c κs = search rules
 
-enum-known-found : tie.Need-enum-known-found invariant-loop decreases-loop
+enum-known-found : tie.Need-enum_known-found invariant-loop decreases-loop
 enum-known-found c = search rules
 
-end-number-requires : tie.Need-end-number-requires invariant-loop decreases-loop
+end-number-requires : tie.Need-end_number-number-requires invariant-loop decreases-loop
 end-number-requires c κs = search rules
 
-returns : tie.Need-returns invariant-loop decreases-loop
+returns : tie.Need-returns-in_default invariant-loop decreases-loop
 returns c =
-    let i = c.before.before.before.loop.invariant in
-    (halts-whole _ _ i.0 _ c.before.before.entry_at.ensures c.before.match.keys2 _ c.end-number.ensures, λ z. turning-done (i.1 z))
+    let i = c.before.before.before.loop-v.invariant in
+    (halts-whole _ _ i.0 _ c.before.before.entry_at-found.ensures c.before.in_default.in_default-own.keys2 _ c.end_number-number.ensures, λ z. turning-done (i.1 z))
 
 -- the entry that was read
-whole : (c : tie.After-found invariant-loop decreases-loop) → read_at c.before.before.before.before.before.args.log.now c.before.before.before.loop.at ≡ Whole c.found.given.0.0
-whole c = sym c.before.before.entry_at.ensures ∙ c.found.given.1
+whole : (c : tie.In-Whole invariant-loop decreases-loop) → read_at c.before.before.before.before.args.log.now c.before.before.loop-v.at ≡ Whole c.in-Whole.v
+whole c = sym c.before.entry_at-found.ensures ∙ c.in-Whole.is
 
-early-fault-requires : tie.Need-early-fault-requires invariant-loop decreases-loop
-early-fault-requires c κs = read_at_lem _ _ c.before.before.before.before.before.loop.invariant.0 _ (whole c.before.before)
+early-fault-requires : tie.Need-early_fault-number-requires invariant-loop decreases-loop
+early-fault-requires c κs = read_at_lem _ _ c.before.before.before.loop-v.invariant.0 _ (whole c.before)
 
-returns-2 : tie.Need-returns-2 invariant-loop decreases-loop
+returns-2 : tie.Need-returns-then-number-ne0 invariant-loop decreases-loop
 returns-2 c =
-    let i = c.before.before.before.before.before.before.before.loop.invariant in
-    (halts-early _ _ i.0 _ (whole c.before.before.before.before) _ c.before.early-fault.ensures c.if1.true, λ z. turning-done (i.1 z))
+    let i = c.before.before.before.before.before.loop-v.invariant in
+    (halts-early _ _ i.0 _ (whole c.before.before.before) _ c.before.early_fault-number.ensures c.if-number-ne0.true, λ z. turning-done (i.1 z))
 
-turn-requires : tie.Need-turn-requires invariant-loop decreases-loop
+turn-requires : tie.Need-turn-turns-requires invariant-loop decreases-loop
 turn-requires c κs =
-    let i = c.before.before.before.before.before.before.before.before.loop.invariant in
-    let s = c.before.before.before.before.before.before.before.before.before.before in
+    let i = c.before.before.before.before.before.before.loop-v.invariant in
+    let s = c.before.before.before.before.before.before.before.before in
     let w = whole c.before.before.before.before.before in
     (read-stands _ _ i.0 _ w, ((read-kind _ _ i.0 _ w, read_number _ _ i.0 _ w, s.requires.1), i.1))
 
-add-next : tie.Need-overflow-add-next invariant-loop decreases-loop
-add-next c = let k = entry_at _ _ (whole c.before.before.before.before.before.before.before) in omega (arith, k.room, c.before.before.before.before.before.before.before.before.before.before.before.before.requires.1)
+add-next : tie.Need-overflow_add-next invariant-loop decreases-loop
+add-next c = let k = entry_at _ _ (whole c.before.before.before.before.before.before.before) in omega (arith, k.room, c.before.before.before.before.before.before.before.before.before.before.requires.1)
 
 -- what is known behind the entry
-behind : (c : tie.After-turn invariant-loop decreases-loop) → c.turn.result.sure ≡ true → Turning c.before.before.before.before.before.before.before.before.before.before.before.args.log.now (c.before.before.before.before.before.before.before.before.before.loop.at + c.before.before.before.before.before.before.found.given.0.0.length) c.turn.result.highest.0 c.turn.new.1.1.1.1.1.0
+behind : (c : tie.After-turn-turns invariant-loop decreases-loop) → c.turn-turns.result.sure ≡ true → Turning c.before.before.before.before.before.before.before.before.before.args.log.now (c.before.before.before.before.before.before.before.loop-v.at + c.before.before.before.before.before.before.found-1.given.0.0.length) c.turn-turns.result.highest.0 c.turn-turns.new.opens
 behind c z =
-    let l = c.before.before.before.before.before.before.before.before.before.loop in
-    subst (λ (x : ℕ). Turning c.before.before.before.before.before.before.before.before.before.before.before.args.log.now (l.at + x) c.turn.result.highest.0 c.turn.new.1.1.1.1.1.0) (sym (read_length _ _ l.invariant.0 _ (whole c.before.before.before.before.before.before))) (c.turn.ensures z)
+    let l = c.before.before.before.before.before.before.before.loop-v in
+    subst (λ (x : ℕ). Turning c.before.before.before.before.before.before.before.before.before.args.log.now (l.at + x) c.turn-turns.result.highest.0 c.turn-turns.new.opens) (sym (read_length _ _ l.invariant.0 _ (whole c.before.before.before.before.before.before))) (c.turn-turns.ensures z)
 
-returns-3 : tie.Need-returns-3 invariant-loop decreases-loop
+returns-3 : tie.Need-returns-then-no_record invariant-loop decreases-loop
 returns-3 c =
-    let i = c.before.before.before.before.before.before.before.before.before.before.before.before.loop.invariant in
-    (halts-late _ _ i.0 _ (whole c.before.before.before.before.before.before.before.before.before) (sym c.before.before.before.before.before.if1.false ∙ c.before.before.before.before.before.before.early-fault.ensures) c.before.no_record.ensures c.if2.true _ refl, λ z. turning-done (behind c.before.before.before z))
+    let i = c.before.before.before.before.before.before.before.before.before.before.loop-v.invariant in
+    (halts-late _ _ i.0 _ (whole c.before.before.before.before.before.before.before.before.before) (sym c.before.before.before.before.before.if-number-ne0.false ∙ c.before.before.before.before.before.before.early_fault-number.ensures) c.before.no_record.ensures c.if-no_record.true _ refl, λ z. turning-done (behind c.before.before.before z))
 
-counted-requires : tie.Need-counted-requires invariant-loop decreases-loop
+counted-requires : tie.Need-counted-seen-requires invariant-loop decreases-loop
 counted-requires c κs =
-    let i = c.before.before.before.before.before.before.before.before.before.before.before.before.before.loop.invariant.0 in
+    let i = c.before.before.before.before.before.before.before.before.before.before.before.loop-v.invariant.0 in
     let m = met-small _ i.met in
-    let r = c.before.before.before.before.before.before.before.before.before.before.before.before.before.before.before.requires.1 in
+    let r = c.before.before.before.before.before.before.before.before.before.before.before.before.before.requires.1 in
     omega (arith, i.few, m, r)
 
-loop-less : tie.Need-loop-smaller invariant-loop decreases-loop
+loop-less : tie.Need-loop-v-smaller invariant-loop decreases-loop
 loop-less c = let k = entry_at _ _ (whole c.before.before.before.before.before.before.before.before.before.before.before) in omega (arith, k.room, k.low)
 
-loop-again : tie.Need-loop-preserved invariant-loop decreases-loop
+loop-again : tie.Need-loop-v-preserved invariant-loop decreases-loop
 loop-again c =
-    let i = c.before.before.before.before.before.before.before.before.before.before.before.before.before.before.loop.invariant in
-    let n = c.counted in
-    (scanning-next _ _ i.0 _ (whole c.before.before.before.before.before.before.before.before.before.before.before) (sym c.before.before.before.before.before.before.before.if1.false ∙ c.before.before.before.before.before.before.before.before.early-fault.ensures) c.before.before.before.no_record.ensures c.before.before.if2.false _ refl n.result n.ensures.0 n.ensures.1, behind c.before.before.before.before.before)
+    let i = c.before.before.before.before.before.before.before.before.before.before.before.before.loop-v.invariant in
+    let n = c.counted-seen in
+    (scanning-next _ _ i.0 _ (whole c.before.before.before.before.before.before.before.before.before.before.before) (sym c.before.before.before.before.before.before.before.if-number-ne0.false ∙ c.before.before.before.before.before.before.before.before.early_fault-number.ensures) c.before.before.before.no_record.ensures c.before.before.if-no_record.false _ refl n.result n.ensures.0 n.ensures.1, behind c.before.before.before.before.before)
 
-pub scan-spec : {M : Type 1} → statement M
-scan-spec =
+pub scan_spec : {M : Type 1} → statement M
+scan_spec =
     tie.close
     (tie.spec invariant-loop decreases-loop loop-holds entry-at-requires enum-known-found end-number-requires returns early-fault-requires returns-2 turn-requires add-next (λ c κs. search rules) returns-3 counted-requires loop-less loop-again)

@@ -8,13 +8,13 @@ use Rattle.order.proofs.Turnings.{turning-begin}
 use Rattle.order.proofs.inner.turn.begin_turn.Statement.{statement}
 use Rattle.order.proofs.inner.turn.begin_turn.Tie as tie
 
-cast-opens : tie.Need-overflow-cast-opens
+cast-opens : tie.Need-overflow_cast-opens
 cast-opens c = let p = c.before.before.before.before.before.before.requires in omega (arith, (stands_at p.0).room, p.1.0.2)
 
-returns-2 : tie.Need-returns-2
+returns-2 : tie.Need-returns
 returns-2 c =
     let p = c.before.before.before.before.before.before.requires in
-    λ z. turning-begin p.1.1 p.0 _ _ p.1.0.0 p.1.0.1 (omega (arith, c.before.before.if1.false)) c.free-cell.ensures
+    λ z. turning-begin p.1.1 p.0 _ _ p.1.0.0 p.1.0.1 (omega (arith, c.before.before.if-t-highest.false)) c.free_cell-r.ensures
 
-pub begin-turn-spec : {M : Type 1} → statement M
-begin-turn-spec = tie.close (tie.spec (λ c. λ z. false-true z) (λ c κs. search rules) cast-opens (λ c. search rules) (λ c. search rules) returns-2)
+pub begin_turn_spec : {M : Type 1} → statement M
+begin_turn_spec = tie.close (tie.spec (λ c. λ z. false-true z) (λ c κs. search rules) cast-opens (λ c. search rules) (λ c. search rules) returns-2)

@@ -18,19 +18,19 @@ use Rattle.order.proofs.inner.turn.goes_on.Tie as tie
 stands-kind : (c : tie.Start) {b : Bool} → b ≡ either (eqb c.args.kind commit) (eqb c.args.kind rollback) → is_end (said c.args.log.now c.args.at) ≡ b
 stands-kind c e = ap (λ (x : ℕ). either (eqb x commit) (eqb x rollback)) (sym c.requires.1.0.0) ∙ sym e
 
-returns-2 : tie.Need-returns-2
+returns-2 : tie.Need-returns-then-is_end
 returns-2 c =
     let s = c.before.before.before.before.before.before in
     let p = s.requires in
-    let o = c.before.before.before.own-cell.ensures (omega (arith, c.before.before.if1.false)) in
-    λ z. turning-end p.1.1 p.0 _ _ p.1.0.1 p.1.0.4 (λ k. p.1.0.3 (p.1.0.0 ∙ k)) (λ k. p.1.0.2 (p.1.0.0 ∙ k)) o.0 o.1 (omega (arith, c.before.before.if1.false))
+    let o = c.before.before.before.own_cell-r.ensures (omega (arith, c.before.before.if-r-ge-TURNS.false)) in
+    λ z. turning-end p.1.1 p.0 _ _ p.1.0.1 p.1.0.4 (λ k. p.1.0.3 (p.1.0.0 ∙ k)) (λ k. p.1.0.2 (p.1.0.0 ∙ k)) o.0 o.1 (omega (arith, c.before.before.if-r-ge-TURNS.false))
 
-returns-3 : tie.Need-returns-3
+returns-3 : tie.Need-returns
 returns-3 c =
     let s = c.before.before.before.before.before.before in
     let p = s.requires in
-    let o = c.before.before.before.own-cell.ensures (omega (arith, c.before.before.if1.false)) in
-    λ z. turning-on p.1.1 p.0 _ _ p.1.0.1 p.1.0.4 (λ k. p.1.0.3 (p.1.0.0 ∙ k)) (λ k. p.1.0.2 (p.1.0.0 ∙ k)) o.0 o.1 (stands-kind s c.before.is-end.ensures ∙ c.if2.false)
+    let o = c.before.before.before.own_cell-r.ensures (omega (arith, c.before.before.if-r-ge-TURNS.false)) in
+    λ z. turning-on p.1.1 p.0 _ _ p.1.0.1 p.1.0.4 (λ k. p.1.0.3 (p.1.0.0 ∙ k)) (λ k. p.1.0.2 (p.1.0.0 ∙ k)) o.0 o.1 (stands-kind s c.before.is_end.ensures ∙ c.if-is_end.false)
 
-pub goes-on-spec : {M : Type 1} → statement M
-goes-on-spec = tie.close (tie.spec (λ c κs. search rules) (λ c. λ z. false-true z) (λ c κs. search rules) (λ c. search rules) (λ c. search rules) returns-2 returns-3)
+pub goes_on_spec : {M : Type 1} → statement M
+goes_on_spec = tie.close (tie.spec (λ c κs. search rules) (λ c. λ z. false-true z) (λ c κs. search rules) (λ c. search rules) (λ c. search rules) returns-2 returns-3)

@@ -6,8 +6,8 @@ use Rattle.rules.proofs.Tests.{false-true}
 use Rattle.order.proofs.inner.turn.is_of.Statement.{statement}
 use Rattle.order.proofs.inner.turn.is_of.Tie as tie
 
-returns-2 : tie.Need-returns-2
-returns-2 c = λ z. (c.before.before.if1.false, sym c.before.number_of.ensures ∙ eqb-true _ _ z)
+returns-2 : tie.Need-returns
+returns-2 c = λ z. (c.before.before.if-p-eq0.false, sym c.before.number_of.ensures ∙ eqb-true _ _ z)
 
-pub is-of-spec : {M : Type 1} → statement M
-is-of-spec = tie.close (tie.spec (λ c. λ z. false-true z) (λ c κs. c.before.before.requires c.if1.false) returns-2)
+pub is_of_spec : {M : Type 1} → statement M
+is_of_spec = tie.close (tie.spec (λ c. λ z. false-true z) (λ c κs. c.before.before.requires c.if-p-eq0.false) returns-2)
