@@ -1,17 +1,15 @@
 -- A payload's forms, told apart by the bytes behind its names.
 -- Assumes nothing.
-use mathlib.Core.Path.{◌≡◌, refl, sym, ap, ◌∙◌}
+use mathlib.Core.Path.{◌≡◌, refl, sym, ◌∙◌}
 use mathlib.Core.Bool.{Bool, true, false, not}
 use Prim.Native.Nat.{ℕ, zero, suc, ◌+◌, ◌-◌, ◌≤◌, ◌<◌}
 use native.Mathlib.Omega.{arith}
 use mathlib.Core.List.{List, [], ◌∷◌}
 use lib.ListN.{length, get_or}
-use lib.Dec.{ltb, leb, eqb}
-use borrow.Author.Tests.{lt-ltb, le-ltb, lt-leb, le-leb, eq-eqb, ne_eqb}
+use borrow.Author.Tests.{lt-ltb, le-ltb, lt-leb, le-leb, ne_eqb}
 use Rattle.refusals.specs.Verdict.{accepted}
-use Rattle.endian.specs.Pick.{pick}
 use Rattle.endian.specs.Numbers.{number_at}
-use Rattle.catalog.specs.TableRows.{table_of, root_of, schema_length, name_length_at, name_length, names_end, part_at, refused_row, laid, row_by, newest_by, row_of, older_row_of}
+use Rattle.catalog.specs.TableRows.{table_of, root_of, name_length_at, name_length, names_end, part_at, refused_row, laid, row_by, newest_by}
 use Rattle.page.proofs.Picks.{never}
 use Rattle.catalog.specs.declared.TableRow.{TableRow}
 

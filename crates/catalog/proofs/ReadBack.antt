@@ -4,17 +4,17 @@ use mathlib.Core.Path.{◌≡◌, refl, sym, ap, ap₂, ◌∙◌}
 use mathlib.Core.Bool.{Bool, true, false}
 use Prim.Native.Nat.{ℕ, ◌+◌, ◌-◌, ◌^◌, ◌≤◌, ◌<◌}
 use native.Mathlib.Omega.{arith}
-use mathlib.Core.List.{List, [], ◌++◌, append_assoc, append-nil}
-use lib.ListN.{length, take, drop, get_or, length-append}
+use mathlib.Core.List.{List, [], ◌++◌, append_assoc}
+use lib.ListN.{length, take, get_or, length-append}
 use lib.Seq.{take_all, take_at, drop_at}
 use lib.Dec.{ltb, leb, eqb}
 use borrow.Author.Tests.{leb-true}
 use Rattle.refusals.specs.Verdict.{accepted}
 use Rattle.endian.specs.Pick.{pick}
-use Rattle.endian.specs.Numbers.{part, bytes_of, number_of, number_at}
+use Rattle.endian.specs.Numbers.{part, bytes_of, number_at}
 use Rattle.endian.proofs.Numbers.{length-bytes_of, number-back}
 use Rattle.endian.proofs.Places.{part-append, number_same, number_append, number-byte}
-use Rattle.catalog.specs.TableRows.{table_of, root_of, schema_length, name_length_at, name_length, names_end, layout_of, part_at, refused_row, laid, row_by, newest_by, row_of, older_row_of, name_bytes, row_bytes, row_length, has_room, refused_writing, write_answer, area_after}
+use Rattle.catalog.specs.TableRows.{table_of, root_of, schema_length, name_length, names_end, layout_of, part_at, refused_row, laid, row_by, newest_by, row_of, older_row_of, row_bytes, row_length, has_room, refused_writing, write_answer, area_after}
 use Rattle.catalog.specs.declared.TableRow.{TableRow}
 use Rattle.refusals.specs.declared.Written.{Written}
 use Rattle.catalog.proofs.Writing.{room-is, row_written}

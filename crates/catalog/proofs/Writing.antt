@@ -13,7 +13,7 @@ use Rattle.refusals.specs.Verdict.{accepted}
 use Rattle.endian.specs.Pick.{pick}
 use Rattle.endian.specs.Numbers.{bytes_of}
 use Rattle.endian.proofs.Numbers.{length-bytes_of}
-use Rattle.endian.proofs.Stores.{Stored, first, more, number}
+use Rattle.endian.proofs.Stores.{first, more, number}
 use Rattle.page.proofs.Picks.{never}
 use Rattle.catalog.specs.TableRows.{name_bytes, row_bytes, row_length, has_room, refused_writing, write_answer, area_after}
 use Rattle.refusals.specs.declared.Written.{Written}

@@ -1,5 +1,5 @@
 -- The catalog's table rows (paper 02, W7): the payload's three forms, reading and writing.
-use Rattle.std.specs.Prelude.{ℕ, ◌+◌, ◌-◌, Bool, true, false, List, [], ◌∷◌, ◌++◌, length, drop, get_or, ltb, leb, eqb}
+use Rattle.std.specs.Prelude.{ℕ, ◌+◌, ◌-◌, Bool, true, false, List, ◌++◌, length, drop, get_or, ltb, leb, eqb}
 use Rattle.refusals.specs.Refusal.{table_row_ends_early, table_row_form, table_row_layout, table_row_no_room, table_row_newer}
 use Rattle.refusals.specs.Verdict.{verdict, accepted}
 use Rattle.endian.specs.Pick.{pick}

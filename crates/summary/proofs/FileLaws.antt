@@ -3,7 +3,7 @@
 use mathlib.Core.Path.{◌≡◌, refl, sym, ap, ap₂, ◌∙◌}
 use mathlib.Core.Logic.{◌⊎◌, inl, inr}
 use mathlib.Core.Bool.{Bool, true, false}
-use Prim.Native.Nat.{ℕ, zero, suc, ◌+◌, ◌^◌, ◌≤◌, ◌<◌}
+use Prim.Native.Nat.{ℕ, zero, suc, ◌^◌, ◌≤◌, ◌<◌}
 use native.Mathlib.Omega.{arith}
 use mathlib.Core.List.{List, [], ◌∷◌, ◌++◌, map, append_assoc}
 use lib.ListN.{length, take, drop, get_or, length-drop, length-map, drop_of_length-le, get_or-eq_default}
@@ -13,7 +13,7 @@ use borrow.Author.Tests.{le-ltb, ltb-false, eqb-true, eq-eqb}
 use Rattle.endian.specs.Pick.{pick}
 use Rattle.endian.specs.Numbers.{Bytes}
 use Rattle.endian.proofs.Bytes.{bytes_drop}
-use Rattle.refusals.specs.Verdict.{verdict, accepted, ◌then◌}
+use Rattle.refusals.specs.Verdict.{verdict, accepted}
 use Rattle.refusals.proofs.Then.{then-accepted, then-zero}
 use Rattle.page.specs.Layout.{page_limit, slot_limit, row_head, longest_tuple, pages_in}
 use Rattle.page.specs.Fault.{verdict_of}

@@ -1,5 +1,5 @@
 -- The summary of the visible rows (paper 02, W6): edition 1, last LSN, row count, then per row in order page, slot and tuple length; how it is written, and how it is judged and read.
-use Rattle.std.specs.Prelude.{ℕ, zero, suc, ◌+◌, List, [], ◌∷◌, ◌++◌, map, length, drop, get_or, ltb, eqb}
+use Rattle.std.specs.Prelude.{ℕ, zero, suc, List, [], ◌∷◌, ◌++◌, map, length, drop, get_or, ltb, eqb}
 use Rattle.endian.specs.Pick.{pick}
 use Rattle.refusals.specs.Refusal.{summary_area, summary_edition, summary_range, summary_order, summary_left_over}
 use Rattle.refusals.specs.Verdict.{verdict, accepted, ◌then◌}

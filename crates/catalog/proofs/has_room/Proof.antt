@@ -1,5 +1,4 @@
 use native.Mathlib.Omega.{arith}
-use borrow.Author.Rules.{rules}
 use Rattle.catalog.proofs.Writing.{long-schema, long-name, by-area}
 use Rattle.catalog.proofs.has_room.Statement.{statement}
 use Rattle.catalog.proofs.has_room.Tie as tie

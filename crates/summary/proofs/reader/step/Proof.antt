@@ -1,6 +1,5 @@
 use mathlib.Core.Path.{◌∙◌}
 use borrow.Author.Rules.{rules}
-use Rattle.refusals.specs.Verdict.{verdict}
 use Rattle.summary.specs.Number.{any_number}
 use Rattle.summary.proofs.Threes.{first-refused, second-refused, third-refused, taken}
 use Rattle.summary.proofs.Answers.{step-refused, step-taken}
