@@ -16,36 +16,36 @@ use Rattle.clash.proofs.inner.enter_ended.Tie as tie
 kept : (c : tie.Start) → Open c.args.log.now c.args.at (c.args.t % 16383) (get_or c.args.opens.now (c.args.t % 16383) 0) (get_or c.args.opens.now (c.args.t % 16383 + 16383) 0)
 kept c = c.requires.1.1.1.tell (c.args.t % 16383) (omega arith)
 
-is-of-requires : tie.Need-is-of-requires
+is-of-requires : tie.Need-is_of-requires
 is-of-requires c κs = (kept c.before.before).within
 
-returns : tie.Need-returns
+returns : tie.Need-returns-then-is_of
 returns c =
     let a = c.before.before.before.before in
     let p = a.requires in
-    opens-set p.1.0 p.1.1.0 p.0.0 p.1.1.1 0 (open-ended p.1.0 p.1.1.0 p.0.0 (kept a) p.0.1 (sym c.before.is-of.ensures ∙ c.if1.true))
+    opens-set p.1.0 p.1.1.0 p.0.0 p.1.1.1 0 (open-ended p.1.0 p.1.1.0 p.0.0 (kept a) p.0.1 (sym c.before.is_of.ensures ∙ c.if-is_of.true))
 
-is-of-requires-2 : tie.Need-is-of-requires-2
+is-of-requires-2 : tie.Need-is_of-requires-2
 is-of-requires-2 c κs = (kept c.before.before.before.before.before).within2
 
-returns-2 : tie.Need-returns-2
+returns-2 : tie.Need-returns-then-not-is_of
 returns-2 c =
     let f = c.before.before.before in
     let a = f.before.before.before.before in
     let p = a.requires in
     opens-same p.1.0 p.1.1.0 p.0.0 p.1.1.1
-    (open-absent p.1.0 p.1.1.0 p.0.0 (kept a) p.0.1 (sym f.before.is-of.ensures ∙ f.if1.false) (sym c.before.is-of2.ensures ∙ not-true _ c.if2.true))
+    (open-absent p.1.0 p.1.1.0 p.0.0 (kept a) p.0.1 (sym f.before.is_of.ensures ∙ f.if-is_of.false) (sym c.before.is_of-2.ensures ∙ c.if-not-is_of.true))
 
-returns-3 : tie.Need-returns-3
+returns-3 : tie.Need-returns
 returns-3 c =
     let f = c.before.before.before in
     let a = f.before.before.before.before in
     let p = a.requires in
     opens-set2 p.1.0 p.1.1.0 p.0.0 p.1.1.1 0
-    (open-ended2 p.1.0 p.1.1.0 p.0.0 (kept a) p.0.1 (sym f.before.is-of.ensures ∙ f.if1.false) (sym c.before.is-of2.ensures ∙ not-false _ c.if2.false))
+    (open-ended2 p.1.0 p.1.1.0 p.0.0 (kept a) p.0.1 (sym f.before.is_of.ensures ∙ f.if-is_of.false) (sym c.before.is_of-2.ensures ∙ c.if-not-is_of.false))
 
-pub enter-ended-spec : {M : Type 1} → statement M
-enter-ended-spec =
+pub enter_ended_spec : {M : Type 1} → statement M
+enter_ended_spec =
     tie.close
     (tie.spec (λ c. search rules) (λ c. search rules) is-of-requires (λ c. search rules) (λ c. search rules) returns
     (λ c. search rules) (λ c. search rules) (λ c. search rules) is-of-requires-2 returns-2 (λ c. search rules) (λ c. search rules) (λ c. search rules) returns-3)

@@ -7,11 +7,11 @@ use Rattle.clash.proofs.NewestLaws.{kept-zero, kept-some}
 use Rattle.clash.proofs.inner.kept_of.Statement.{statement}
 use Rattle.clash.proofs.inner.kept_of.Tie as tie
 
-returns : tie.Need-returns
-returns c = sym (ap kept c.if1.true ∙ kept-zero)
+returns : tie.Need-returns-then-t-eq0
+returns c = sym (ap kept c.if-t-eq0.true ∙ kept-zero)
 
-returns-2 : tie.Need-returns-2
-returns-2 c = sym (kept-some _ c.if1.false)
+returns-2 : tie.Need-returns
+returns-2 c = sym (kept-some _ c.if-t-eq0.false)
 
-pub kept-of-spec : {M : Type 1} → statement M
-kept-of-spec = tie.close (tie.spec returns (λ c. search rules) (λ c. search rules) returns-2)
+pub kept_of_spec : {M : Type 1} → statement M
+kept_of_spec = tie.close (tie.spec returns (λ c. search rules) (λ c. search rules) returns-2)

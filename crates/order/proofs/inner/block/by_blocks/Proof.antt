@@ -23,30 +23,30 @@ loop-holds c =
     (refl, refl, t.ensures.1, omega (arith, t.ensures.0.0), subst (λ x. FirstWrong s.args.log.now (below x) s.args.stop s.args.stop) (sym t.ensures.0.1) (wrong_start s.args.stop s.requires.1.1))
 
 tested-requires : tie.Need-tested-best-requires invariant-loop decreases-loop
-tested-requires c κs = let i = c.before.before.loop-hi.invariant in (i.4.met, (i.3, i.2))
+tested-requires c κs = let i = c.loop-hi.invariant in (i.4.met, (i.3, i.2))
 
 returns : tie.Need-returns-then-hi invariant-loop decreases-loop
 returns c =
-    let i = c.before.before.before.before.before.before.loop-hi.invariant in
+    let i = c.before.before.before.before.loop-hi.invariant in
     let t = c.before.before.before.tested-best in
     wrong-last _ _ i.4 t.ensures c.if-hi.true
 
 next-block-requires-2 : tie.Need-next_block-b-requires-in-loop-hi invariant-loop decreases-loop
 next-block-requires-2 c κs =
-    let i = c.before.before.before.before.before.before.before.before.before.loop-hi.invariant in
-    let s = c.before.before.before.before.before.before.before.before.before.before.before.before.before.before.before.before.before.before.before.before in
+    let i = c.before.before.before.before.before.before.before.loop-hi.invariant in
+    let s = c.before.before.before.before.before.before.before.before.before.before.before.before.before.before.before.before.before.before in
     let t = c.before.before.before.before.before.before.before.before.before.before.before.before.before.before.next_block-b in
     (s.requires.0, ((omega (arith, i.0, t.auto.begins, s.requires.1.0.0), omega (arith, i.1, t.auto.ends, s.requires.1.0.1)), c.before.before.before.before.before.before.tested-best.ensures.met))
 
 loop-less : tie.Need-loop-hi-smaller invariant-loop decreases-loop
-loop-less c = let b = c.before.before.before.before.next_block-b-in-loop-hi.ensures.0.1 in omega (arith, b, c.before.before.before.before.before.before.before.before.before.before.before.before.before.before.loop-hi.invariant.2.range, c.before.before.before.before.before.before.before.before.if-hi.false)
+loop-less c = let b = c.before.before.before.before.next_block-b-in-loop-hi.ensures.0.1 in omega (arith, b, c.before.before.before.before.before.before.before.before.before.before.before.before.loop-hi.invariant.2.range, c.before.before.before.before.before.before.before.before.if-hi.false)
 
 loop-again : tie.Need-loop-hi-preserved invariant-loop decreases-loop
 loop-again c =
-    let i = c.before.before.before.before.before.before.before.before.before.before.before.before.before.before.loop-hi.invariant in
+    let i = c.before.before.before.before.before.before.before.before.before.before.before.before.loop-hi.invariant in
     let n = c.before.before.before.before.next_block-b-in-loop-hi in
     let t = c.before.before.before.before.before.before.before.before.before.before.before.tested-best in
-    let s = c.before.before.before.before.before.before.before.before.before.before.before.before.before.before.before.before.before.before.before.before.before.before.before.before.before in (
+    let s = c.before.before.before.before.before.before.before.before.before.before.before.before.before.before.before.before.before.before.before.before.before.before.before in (
       n.auto.begins ∙ i.0,
       n.auto.ends ∙ i.1,
       n.ensures.1,

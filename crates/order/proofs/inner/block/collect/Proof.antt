@@ -31,12 +31,12 @@ returns : tie.Need-returns-in_default invariant-loop decreases-loop
 returns c =
     let l = c.before.before.loop-v in
     let s = c.before.before.before.before.before.before.before in
-    let e : l.at ≡ s.args.stop = omega (arith, known-stops _ _ _ _ c.before.known_at_lem.ensures c.in_default.in_default-own.keys2, l.invariant.3) in
-    subst (λ (x : ℕ). Gathered s.args.log.now s.args.lo.0 x l.held l.begins-1 l.ends-1) e l.invariant.4
+    let e : l.at ≡ s.args.stop = omega (arith, known-stops _ _ _ _ c.before.known_at.ensures c.in_default.in_default-own.keys2, l.invariant.3) in
+    subst (λ (x : ℕ). Gathered s.args.log.now s.args.lo.0 x l.held l.begins l.ends) e l.invariant.4
 
 -- the entry that was read, and the place behind it
 behind : (c : tie.In-Whole invariant-loop decreases-loop) → Ahead c.before.before.before.before.before.before.before.args.log.now c.before.before.loop-v.at c.before.before.before.before.before.before.before.args.stop c.in-Whole.v
-behind c = ahead-found c.before.before.loop-v.invariant.2 c.before.before.before.before.before.before.before.requires.1.1 c.before.known_at_lem.ensures c.in-Whole.is
+behind c = ahead-found c.before.before.loop-v.invariant.2 c.before.before.before.before.before.before.before.requires.1.1 c.before.known_at.ensures c.in-Whole.is
 
 take-in-requires : tie.Need-take_in-held-requires invariant-loop decreases-loop
 take-in-requires c κs =

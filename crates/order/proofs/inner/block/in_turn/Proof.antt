@@ -1,5 +1,6 @@
 -- The first Begin and the first ending tell whether the transaction has begun and ended.
 -- Assumes nothing.
+use mathlib.Core.Bool.{not}
 use mathlib.Core.Path.{◌≡◌, sym, ap, ◌∙◌}
 use Prim.Native.Nat.{ℕ}
 use borrow.Author.Tests.{not-false}
@@ -25,7 +26,7 @@ returns : tie.Need-returns-then-kind-eq-BEGIN
 returns c = turn-begin _ _ _ (started c.before) c.if-kind-eq-BEGIN.true
 
 returns-2 : tie.Need-returns-then-not-started
-returns-2 c = turn-none _ _ _ (started c.before.before) c.before.if-kind-eq-BEGIN.false (not-true c.before.before.is_before-started.result c.if-not-started.true)
+returns-2 c = turn-none _ _ _ (started c.before.before) c.before.if-kind-eq-BEGIN.false (not-true c.before.before.is_before-started.result (ap not c.if-not-started.true))
 
 near-requires-2 : tie.Need-near-e-requires
 near-requires-2 c κs = let p = c.before.before.before.before.before.before.before.before.before.requires.1.1 in (p.end_places, p.ends_rise)
@@ -36,7 +37,7 @@ returns-3 c =
     let b = s.requires.1.0 in
     let over : c.is_before.result ≡ ended (before s.args.log.now s.args.at) s.args.t.0 =
     c.is_before.ensures ∙ ap (λ (q : ℕ). is_before q s.args.at) c.before.near-e.ensures ∙ sym (s.requires.1.1.tells_ended s.args.t.0 s.args.at b.1 b.2 s.requires.0 b.0) in
-    turn-open _ _ _ (started c.before.before.before.before.before) c.before.before.before.before.if-kind-eq-BEGIN.false (not-false c.before.before.before.before.before.is_before-started.result c.before.before.before.if-not-started.false) over
+    turn-open _ _ _ (started c.before.before.before.before.before) c.before.before.before.before.if-kind-eq-BEGIN.false (not-false c.before.before.before.before.before.is_before-started.result (ap not c.before.before.before.if-not-started.false)) over
 
 pub in_turn_spec : {M : Type 1} → statement M
 in_turn_spec = tie.close (tie.spec near-requires (λ c κs. search rules) returns returns-2 near-requires-2 (λ c κs. search rules) returns-3)

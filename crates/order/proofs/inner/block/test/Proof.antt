@@ -1,5 +1,7 @@
 -- The invariant: no entry before `at` is wrong.
 -- Assumes nothing.
+use mathlib.Core.Path.{ap}
+use mathlib.Core.Bool.{not}
 use Prim.Native.Nat.{ℕ, ◌+◌, ◌-◌, ◌≤◌}
 use mathlib.Core.Path.{◌≡◌, sym, ◌∙◌, subst}
 use mathlib.Core.Bool.{true, false}
@@ -27,11 +29,11 @@ known-at-requires : tie.Need-known_at-requires invariant-loop decreases-loop
 known-at-requires c κs = still c.loop-v.invariant.0.met c.before.before.before.before.requires.0
 
 returns : tie.Need-returns-in_default invariant-loop decreases-loop
-returns c = wrong-none c.before.before.before.before.before.before.args.stop c.before.before.loop-v.invariant.0 c.before.before.before.before.before.before.requires.0 (known-stops _ _ _ _ c.before.known_at_lem.ensures c.in_default.in_default-own.keys2)
+returns c = wrong-none c.before.before.before.before.before.before.args.stop c.before.before.loop-v.invariant.0 c.before.before.before.before.before.before.requires.0 (known-stops _ _ _ _ c.before.known_at.ensures c.in_default.in_default-own.keys2)
 
 -- the entry that was read, and the place behind it
 behind : (c : tie.In-Whole invariant-loop decreases-loop) → Ahead c.before.before.before.before.before.before.args.log.now c.before.before.loop-v.at c.before.before.before.before.before.before.args.stop c.in-Whole.v
-behind c = ahead-found c.before.before.loop-v.invariant.0.met c.before.before.before.before.before.before.requires.0 c.before.known_at_lem.ensures c.in-Whole.is
+behind c = ahead-found c.before.before.loop-v.invariant.0.met c.before.before.before.before.before.before.requires.0 c.before.known_at.ensures c.in-Whole.is
 
 right-requires : tie.Need-right-requires invariant-loop decreases-loop
 right-requires c κs = let i = c.before.before.before.before.loop-v.invariant in (i.0.met, ((behind c.before.before).is, (i.1, c.before.before.before.before.before.before.before.before.requires.1)))
@@ -39,7 +41,7 @@ right-requires c κs = let i = c.before.before.before.before.loop-v.invariant in
 returns-2 : tie.Need-returns-then-not-right invariant-loop decreases-loop
 returns-2 c =
     let i = c.before.before.before.before.before.before.loop-v.invariant in
-    wrong-here c.before.before.before.before.before.before.before.before.before.before.args.stop i.0 (behind c.before.before.before.before).stands i.1 (sym c.before.right.ensures ∙ not-true c.before.right.result c.if-not-right.true)
+    wrong-here c.before.before.before.before.before.before.before.before.before.before.args.stop i.0 (behind c.before.before.before.before).stands i.1 (sym c.before.right.ensures ∙ not-true c.before.right.result (ap not c.if-not-right.true))
 
 add_at : tie.Need-overflow_add-at invariant-loop decreases-loop
 add_at c = let k = behind c.before.before.before.before.before in omega (arith, k.next)
@@ -53,7 +55,7 @@ loop-again c =
     let l = c.before.before.before.before.before.before.before.loop-v in
     let s = c.before.before.before.before.before.before.before.before.before.before.before in (
       subst (λ (x : ℕ). RightBefore s.args.log.now s.args.lo.0 s.args.hi.0 (l.at + x)) (sym k.long)
-          (right-next l.invariant.0 k.stands (sym c.before.before.right.ensures ∙ not-false c.before.before.right.result c.before.if-not-right.false)),
+          (right-next l.invariant.0 k.stands (sym c.before.before.right.ensures ∙ not-false c.before.before.right.result (ap not c.before.if-not-right.false))),
       k.next,
     )
 

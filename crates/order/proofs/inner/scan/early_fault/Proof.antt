@@ -1,5 +1,7 @@
 -- One law for each way.
 -- Assumes nothing.
+use mathlib.Core.Path.{ap}
+use mathlib.Core.Bool.{not}
 use mathlib.Core.Path.{◌≡◌, sym, ◌∙◌}
 use mathlib.Core.Bool.{true}
 use borrow.Author.Rules.{rules}
@@ -17,15 +19,15 @@ entry c = entry_of c.args.log.now c.args.v
 
 known : (c : tie.Else-not-known) → is_known (entry c.before.before.before).kind ≡ true
 unfolding entry_of entry
-known c = sym c.before.known.ensures ∙ not-false c.before.known.result c.if-not-known.false
+known c = sym c.before.known.ensures ∙ not-false c.before.known.result (ap not c.if-not-known.false)
 
 shaped : (c : tie.Else-not-shaped) → is_shaped (entry c.before.before.before.before.before) ≡ true
 unfolding entry
-shaped c = sym c.before.shaped.ensures ∙ not-false c.before.shaped.result c.if-not-shaped.false
+shaped c = sym c.before.shaped.ensures ∙ not-false c.before.shaped.result (ap not c.if-not-shaped.false)
 
 returns : tie.Need-returns-then-not-known
 unfolding entry_of
-returns c = early-type _ _ (sym c.before.known.ensures ∙ not-true c.before.known.result c.if-not-known.true)
+returns c = early-type _ _ (sym c.before.known.ensures ∙ not-true c.before.known.result (ap not c.if-not-known.true))
 
 returns-2 : tie.Need-returns-then-not-shaped
 unfolding entry

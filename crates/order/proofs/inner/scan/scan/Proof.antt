@@ -64,7 +64,7 @@ add-next : tie.Need-overflow_add-next invariant-loop decreases-loop
 add-next c = let k = entry_at _ _ (whole c.before.before.before.before.before.before.before) in omega (arith, k.room, c.before.before.before.before.before.before.before.before.before.before.requires.1)
 
 -- what is known behind the entry
-behind : (c : tie.After-turn-turns invariant-loop decreases-loop) → c.turn-turns.result.sure ≡ true → Turning c.before.before.before.before.before.before.before.before.before.args.log.now (c.before.before.before.before.before.before.before.loop-v.at + c.before.before.before.before.before.before.found-1.given.0.0.length) c.turn-turns.result.highest.0 c.turn-turns.new.opens
+behind : (c : tie.After-turn-turns invariant-loop decreases-loop) → c.turn-turns.result.sure ≡ true → Turning c.before.before.before.before.before.before.before.before.before.args.log.now (c.before.before.before.before.before.before.before.loop-v.at + c.before.before.before.before.before.before.entry_at-found.given.0.0.length) c.turn-turns.result.highest.0 c.turn-turns.new.opens
 behind c z =
     let l = c.before.before.before.before.before.before.before.loop-v in
     subst (λ (x : ℕ). Turning c.before.before.before.before.before.before.before.before.before.args.log.now (l.at + x) c.turn-turns.result.highest.0 c.turn-turns.new.opens) (sym (read_length _ _ l.invariant.0 _ (whole c.before.before.before.before.before.before))) (c.turn-turns.ensures z)

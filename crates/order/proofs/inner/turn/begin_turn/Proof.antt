@@ -9,7 +9,7 @@ use Rattle.order.proofs.inner.turn.begin_turn.Statement.{statement}
 use Rattle.order.proofs.inner.turn.begin_turn.Tie as tie
 
 cast-opens : tie.Need-overflow_cast-opens
-cast-opens c = let p = c.before.before.before.before.before.before.requires in omega (arith, (stands_at p.0).room, p.1.0.2)
+cast-opens c = let p = c.before.before.before.before.before.requires in omega (arith, (stands_at p.0).room, p.1.0.2)
 
 returns-2 : tie.Need-returns
 returns-2 c =

@@ -27,7 +27,7 @@ returns-2 c =
 
 returns-3 : tie.Need-returns
 returns-3 c =
-    let s = c.before.before.before.before.before.before in
+    let s = c.before.before.before.before.before in
     let p = s.requires in
     let o = c.before.before.before.own_cell-r.ensures (omega (arith, c.before.before.if-r-ge-TURNS.false)) in
     λ z. turning-on p.1.1 p.0 _ _ p.1.0.1 p.1.0.4 (λ k. p.1.0.3 (p.1.0.0 ∙ k)) (λ k. p.1.0.2 (p.1.0.0 ∙ k)) o.0 o.1 (stands-kind s c.before.is_end.ensures ∙ c.if-is_end.false)
