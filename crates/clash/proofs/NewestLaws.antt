@@ -71,7 +71,7 @@ module _ (es : List Entry) (e : Entry) (change : is_change e ≡ true) (u : ℕ)
 newest-append : (i k u : ℕ) (es fs : List Entry) → newest_on i k u (es ++ fs) ≡ newest_on i k (newest_on i k u es) fs
 unfolding newest_on
 newest-append i k u [] fs = refl
-newest-append i k u (d ∷ es) fs = newest-append i k _ es fs
+newest-append i k u (d ∷ es) fs = newest-append i k (pick (on_slot i k d) d.txn u) es fs
 
 newest-snoc : (i k : ℕ) (es : List Entry) (e : Entry) → newest_on i k 0 (es ++ (e ∷ [])) ≡ pick (on_slot i k e) e.txn (newest_on i k 0 es)
 unfolding newest_on

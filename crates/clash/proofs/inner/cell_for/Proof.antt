@@ -43,7 +43,7 @@ returns-3 c =
     sym (read-high _ _ _ _ (change f) _ (page c.before.before) (omega arith) c.if-i-hi.true)
 
 add-u16-at : tie.Need-overflow_add-at
-add-u16-at c = omega (arith, (key c.before.before.before).room, c.before.before.before.before.before.before.well-formed.0)
+add-u16-at c = omega (arith, (key c.before.before.before).room, c.before.before.before.before.before.before.well_formed.0)
 
 u16-at-requires : tie.Need-u16_at-k-requires
 u16-at-requires c κs = omega (arith, (key c.before.before.before).room)
@@ -77,7 +77,7 @@ returns-4 : tie.Need-returns
 returns-4 c =
     let e = c.before.before in
     let f = e.before.before.before in
-    read-own _ _ _ _ (change f) _ (page e.before.before) (omega arith) (omega arith) _ _ (c.before.u16_at-k.ensures ∙ sym (key f).slot) c.Cell-at.ensures
+    read-own _ _ _ _ (change f) _ (page e.before.before) (omega arith) (omega arith) _ _ (c.before.u16_at-k.ensures ∙ sym (key f).slot) c.cell_at.ensures
 
 pub cell_for_spec : {M : Type 1} → statement M
 cell_for_spec =

@@ -16,56 +16,56 @@ kept : (c : tie.Start) → Open c.args.log.now c.args.at (c.args.t % 16383) (get
 kept c = c.requires.1.1.1.tell (c.args.t % 16383) (omega arith)
 
 is-of-requires : tie.Need-is_of-requires
-is-of-requires c κs = (kept c.before.before).within
+is-of-requires c κs = (kept c.before.before.before).within
 
 returns : tie.Need-returns-then-is_of
 returns c =
-    let a = c.before.before.before.before in
+    let a = c.before.before.before.before.before in
     let p = a.requires in
-    opens-same p.1.0 p.1.1.0 p.0.1 p.1.1.1 (open_stays p.1.0 p.1.1.0 p.0.1 (kept a) p.0.2 (sym c.before.is_of.ensures ∙ c.if-is_of.true))
+    opens-same p.1.0 p.1.1.0 p.0.1 p.1.1.1 (open_stays p.1.0 p.1.1.0 p.0.1 (kept a) p.0.2 (sym c.is_of.ensures ∙ c.if-is_of.true))
 
 is-of-requires-2 : tie.Need-is_of-requires-2
-is-of-requires-2 c κs = (kept c.before.before.before.before.before).within2
+is-of-requires-2 c κs = (kept c.before.before.before.before.before.before).within2
 
 returns-2 : tie.Need-returns-then-is_of-2
 returns-2 c =
-    let f = c.before.before.before in
-    let a = f.before.before.before.before in
+    let f = c in
+    let a = c.before.before.before.before.before.before.before.before in
     let p = a.requires in
     opens-same p.1.0 p.1.1.0 p.0.1 p.1.1.1
-    (open-stays2 p.1.0 p.1.1.0 p.0.1 (kept a) p.0.2 (sym f.before.is_of.ensures ∙ f.if-is_of.false) (sym c.before.is_of-2.ensures ∙ c.if-is_of-2.true))
+    (open-stays2 p.1.0 p.1.1.0 p.0.1 (kept a) p.0.2 (sym f.is_of.ensures ∙ f.if-is_of.false) (sym c.is_of-2.ensures ∙ c.if-is_of-2.true))
 
 cast-opens : tie.Need-overflow_cast-opens
 cast-opens c =
-    let p = c.before.before.before.before.before.before.before.before.requires in
+    let p = c.requires in
     omega (arith, (stands_at p.1.1.0).room, p.0.0)
 
 returns-3 : tie.Need-returns-then-v-eq0
 returns-3 c =
-    let g = c.before in
-    let f = g.before.before.before in
-    let a = f.before.before.before.before in
+    let g = c in
+    let f = c in
+    let a = c.before.before.before.before.before.before.before.before.before in
     let p = a.requires in
     opens-set p.1.0 p.1.1.0 p.0.1 p.1.1.1 _
-    (open-new p.1.0 p.1.1.0 p.0.1 (kept a) p.0.2 (sym f.before.is_of.ensures ∙ f.if-is_of.false) (sym g.before.is_of-2.ensures ∙ g.if-is_of-2.false) c.if-v-eq0.true)
+    (open-new p.1.0 p.1.1.0 p.0.1 (kept a) p.0.2 (sym f.is_of.ensures ∙ f.if-is_of.false) (sym g.is_of-2.ensures ∙ g.if-is_of-2.false) c.if-v-eq0.true)
 
 cast-opens-2 : tie.Need-overflow_cast-opens-then-w-eq0
 cast-opens-2 c =
-    let p = c.before.before.before.before.before.before.before.before.before.requires in
+    let p = c.requires in
     omega (arith, (stands_at p.1.1.0).room, p.0.0)
 
 returns-4 : tie.Need-returns-then-w-eq0
 returns-4 c =
-    let g = c.before.before in
-    let f = g.before.before.before in
-    let a = f.before.before.before.before in
+    let g = c in
+    let f = c in
+    let a = c.before.before.before.before.before.before.before.before.before.before in
     let p = a.requires in
     opens-set2 p.1.0 p.1.1.0 p.0.1 p.1.1.1 _
-    (open-new2 p.1.0 p.1.1.0 p.0.1 (kept a) p.0.2 (sym f.before.is_of.ensures ∙ f.if-is_of.false) (sym g.before.is_of-2.ensures ∙ g.if-is_of-2.false) c.if-w-eq0.true)
+    (open-new2 p.1.0 p.1.1.0 p.0.1 (kept a) p.0.2 (sym f.is_of.ensures ∙ f.if-is_of.false) (sym g.is_of-2.ensures ∙ g.if-is_of-2.false) c.if-w-eq0.true)
 
 returns-5 : tie.Need-returns
 returns-5 c =
-    let a = c.before.before.before.before.before.before.before.before.before in
+    let a = c.before.before.before.before.before.before.before.before.before.before in
     let p = a.requires in
     opens-set p.1.0 p.1.1.0 p.0.1 p.1.1.1 1 (open-many p.1.0 p.1.1.0 (kept a))
 

@@ -18,23 +18,23 @@ returns : tie.Need-returns-then-v-eq1
 returns c = ap (λ (x : ℕ). eqb x 1) c.look_back.ensures
 
 is-of-requires : tie.Need-is_of-requires
-is-of-requires c κs = (kept c.before.before.before).within
+is-of-requires c κs = (kept c.before.before.before.before).within
 
 returns-2 : tie.Need-returns-then-is_of
 returns-2 c =
-    let a = c.before.before.before.before.before in
-    let o = sym c.before.is_of.ensures ∙ c.if-is_of.true in
-    sym ((kept a).tells c.before.before.if-v-eq1.false a.args.u a.requires.0 refl ∙ rw o)
+    let a = c.before.before.before.before.before.before in
+    let o = sym c.is_of.ensures ∙ c.if-is_of.true in
+    sym ((kept a).tells c.if-v-eq1.false a.args.u a.requires.0 refl ∙ rw o)
 
 is-of-requires-2 : tie.Need-is_of-requires-2
-is-of-requires-2 c κs = (kept c.before.before.before.before.before.before).within2
+is-of-requires-2 c κs = (kept c.before.before.before.before.before.before.before).within2
 
 returns-3 : tie.Need-returns
 returns-3 c =
-    let f = c.before.before in
-    let a = f.before.before.before.before.before in
-    let o = sym f.before.is_of.ensures ∙ f.if-is_of.false in
-    c.is_of-2.ensures ∙ sym ((kept a).tells f.before.before.if-v-eq1.false a.args.u a.requires.0 refl ∙ rw o)
+    let f = c in
+    let a = c.before.before.before.before.before.before.before.before in
+    let o = sym f.is_of.ensures ∙ f.if-is_of.false in
+    c.is_of-2.ensures ∙ sym ((kept a).tells f.if-v-eq1.false a.args.u a.requires.0 refl ∙ rw o)
 
 pub is_open_spec : {M : Type 1} → statement M
 is_open_spec = tie.close (tie.spec (λ c. search rules) (λ c. search rules) (λ c κs. search rules) returns is-of-requires returns-2 (λ c. search rules) (λ c. search rules) (λ c. search rules) is-of-requires-2 returns-3)

@@ -35,7 +35,7 @@ returns : tie.Need-returns-then-not-is_change
 returns c = sym (off-none _ _ _ (sym (kind-is c.before) ∙ not-true c.before.is_change.result (ap not c.if-not-is_change.true)))
 
 add-u64-at : tie.Need-overflow_add-place
-add-u64-at c = omega (arith, (key c).room, c.before.before.before.before.well-formed.0)
+add-u64-at c = omega (arith, (key c).room, c.before.before.before.before.well_formed.0)
 
 u64-at-requires : tie.Need-u64_at-requires
 u64-at-requires c κs = omega (arith, (key c).room)
@@ -46,7 +46,7 @@ returns-2 c =
     sym (off-page _ _ _ (change f) (λ e. c.if-u64_at-page.true (c.before.u64_at.ensures ∙ sym (key f).page ∙ e)))
 
 add-u16-at : tie.Need-overflow_add-place-2
-add-u16-at c = let f = c.before.before in omega (arith, (key f).room, f.before.before.before.before.well-formed.0)
+add-u16-at c = let f = c.before.before in omega (arith, (key f).room, f.before.before.before.before.well_formed.0)
 
 u16-at-requires : tie.Need-u16_at-requires
 u16-at-requires c κs = omega (arith, (key c.before.before).room)

@@ -32,7 +32,7 @@ returns c =
     sym (no-change-beyond _ _ _ (bytes b) (sym (kind-is c.before) ∙ not-true c.before.is_change.result (ap not c.if-not-is_change.true)))
 
 add-u64-at : tie.Need-overflow_add-at
-add-u64-at c = omega (arith, (key c).room, c.before.before.before.well-formed.0)
+add-u64-at c = omega (arith, (key c).room, c.before.before.before.well_formed.0)
 
 u64-at-requires : tie.Need-u64_at-page-requires
 u64-at-requires c κs = omega (arith, (key c).room)

@@ -14,4 +14,4 @@ test-requires c κs = let s = c.before.before.before.before.before in (s.require
 pub tested_spec : {M : Type 1} → statement M
 tested_spec =
     tie.close
-    (tie.spec (λ c. sym (length-take-le _ _ c.before.before.before.before.before.requires.1.1.begins_fit)) (λ c. sym (length-take-le _ _ c.before.before.before.before.before.before.before.requires.1.1.ends_fit)) test-requires (λ c. c.test.ensures))
+    (tie.spec (λ c. sym (length-take-le _ _ c.before.before.before.before.before.requires.1.1.begins_fit)) (λ c. sym (length-take-le _ _ c.before.before.before.before.before.requires.1.1.ends_fit)) test-requires (λ c. c.test.ensures))

@@ -19,19 +19,19 @@ entry c = entry_of c.args.log.now c.args.v
 
 known : (c : tie.Else-not-known) → is_known (entry c.before.before.before).kind ≡ true
 unfolding entry_of entry
-known c = sym c.before.known.ensures ∙ not-false c.before.known.result (ap not c.if-not-known.false)
+known c = sym c.known.ensures ∙ not-false c.known.result (ap not c.if-not-known.false)
 
 shaped : (c : tie.Else-not-shaped) → is_shaped (entry c.before.before.before.before.before) ≡ true
 unfolding entry
-shaped c = sym c.before.shaped.ensures ∙ not-false c.before.shaped.result (ap not c.if-not-shaped.false)
+shaped c = sym c.shaped.ensures ∙ not-false c.shaped.result (ap not c.if-not-shaped.false)
 
 returns : tie.Need-returns-then-not-known
 unfolding entry_of
-returns c = early-type _ _ (sym c.before.known.ensures ∙ not-true c.before.known.result (ap not c.if-not-known.true))
+returns c = early-type _ _ (sym c.known.ensures ∙ not-true c.known.result (ap not c.if-not-known.true))
 
 returns-2 : tie.Need-returns-then-not-shaped
 unfolding entry
-returns-2 c = early-shape _ _ (known c.before.before) (sym c.before.shaped.ensures ∙ not-true c.before.shaped.result c.if-not-shaped.true)
+returns-2 c = early-shape _ _ (known c.before.before) (sym c.shaped.ensures ∙ not-true c.shaped.result (ap not c.if-not-shaped.true))
 
 returns-3 : tie.Need-returns-then-v-last
 unfolding entry entry_of

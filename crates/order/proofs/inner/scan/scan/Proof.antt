@@ -38,47 +38,47 @@ end-number-requires c κs = search rules
 
 returns : tie.Need-returns-in_default invariant-loop decreases-loop
 returns c =
-    let i = c.before.before.before.loop-v.invariant in
-    (halts-whole _ _ i.0 _ c.before.before.entry_at-found.ensures c.before.in_default.in_default-own.keys2 _ c.end_number-number.ensures, λ z. turning-done (i.1 z))
+    let i = c.loop-v.invariant in
+    (halts-whole _ _ i.0 _ c.entry_at-found.ensures c.in_default.in_default-own.keys2 _ c.end_number-number.ensures, λ z. turning-done (i.1 z))
 
 -- the entry that was read
-whole : (c : tie.In-Whole invariant-loop decreases-loop) → read_at c.before.before.before.before.args.log.now c.before.before.loop-v.at ≡ Whole c.in-Whole.v
-whole c = sym c.before.entry_at-found.ensures ∙ c.in-Whole.is
+whole : (c : tie.In-Whole invariant-loop decreases-loop) → read_at c.args.log.now c.loop-v.at ≡ Whole c.in-Whole.v
+whole c = sym c.entry_at-found.ensures ∙ c.in-Whole.is
 
 early-fault-requires : tie.Need-early_fault-number-requires invariant-loop decreases-loop
-early-fault-requires c κs = read_at_lem _ _ c.before.before.before.loop-v.invariant.0 _ (whole c.before)
+early-fault-requires c κs = read_at_lem _ _ c.loop-v.invariant.0 _ (whole c.before)
 
 returns-2 : tie.Need-returns-then-number-ne0 invariant-loop decreases-loop
 returns-2 c =
-    let i = c.before.before.before.before.before.loop-v.invariant in
-    (halts-early _ _ i.0 _ (whole c.before.before.before) _ c.before.early_fault-number.ensures c.if-number-ne0.true, λ z. turning-done (i.1 z))
+    let i = c.loop-v.invariant in
+    (halts-early _ _ i.0 _ (whole c.before.before.before) _ c.early_fault-number.ensures c.if-number-ne0.true, λ z. turning-done (i.1 z))
 
 turn-requires : tie.Need-turn-turns-requires invariant-loop decreases-loop
 turn-requires c κs =
-    let i = c.before.before.before.before.before.before.loop-v.invariant in
-    let s = c.before.before.before.before.before.before.before.before in
+    let i = c.loop-v.invariant in
+    let s = c in
     let w = whole c.before.before.before.before.before in
     (read-stands _ _ i.0 _ w, ((read-kind _ _ i.0 _ w, read_number _ _ i.0 _ w, s.requires.1), i.1))
 
 add-next : tie.Need-overflow_add-next invariant-loop decreases-loop
-add-next c = let k = entry_at _ _ (whole c.before.before.before.before.before.before.before) in omega (arith, k.room, c.before.before.before.before.before.before.before.before.before.before.requires.1)
+add-next c = let k = entry_at _ _ (whole c.before.before.before.before.before.before.before) in omega (arith, k.room, c.requires.1)
 
 -- what is known behind the entry
-behind : (c : tie.After-turn-turns invariant-loop decreases-loop) → c.turn-turns.result.sure ≡ true → Turning c.before.before.before.before.before.before.before.before.before.args.log.now (c.before.before.before.before.before.before.before.loop-v.at + c.before.before.before.before.before.before.entry_at-found.given.0.0.length) c.turn-turns.result.highest.0 c.turn-turns.new.opens
+behind : (c : tie.After-turn-turns invariant-loop decreases-loop) → c.turn-turns.result.sure ≡ true → Turning c.args.log.now (c.loop-v.at + c.in-Whole.v.length) c.turn-turns.result.highest.0 c.turn-turns.new.opens
 behind c z =
-    let l = c.before.before.before.before.before.before.before.loop-v in
-    subst (λ (x : ℕ). Turning c.before.before.before.before.before.before.before.before.before.args.log.now (l.at + x) c.turn-turns.result.highest.0 c.turn-turns.new.opens) (sym (read_length _ _ l.invariant.0 _ (whole c.before.before.before.before.before.before))) (c.turn-turns.ensures z)
+    let l = c.loop-v in
+    subst (λ (x : ℕ). Turning c.args.log.now (l.at + x) c.turn-turns.result.highest.0 c.turn-turns.new.opens) (sym (read_length _ _ l.invariant.0 _ (whole c.before.before.before.before.before.before))) (c.turn-turns.ensures z)
 
 returns-3 : tie.Need-returns-then-no_record invariant-loop decreases-loop
 returns-3 c =
-    let i = c.before.before.before.before.before.before.before.before.before.before.loop-v.invariant in
-    (halts-late _ _ i.0 _ (whole c.before.before.before.before.before.before.before.before.before) (sym c.before.before.before.before.before.if-number-ne0.false ∙ c.before.before.before.before.before.before.early_fault-number.ensures) c.before.no_record.ensures c.if-no_record.true _ refl, λ z. turning-done (behind c.before.before.before z))
+    let i = c.loop-v.invariant in
+    (halts-late _ _ i.0 _ (whole c.before.before.before.before.before.before.before.before.before) (sym c.if-number-ne0.false ∙ c.early_fault-number.ensures) c.no_record.ensures c.if-no_record.true _ refl, λ z. turning-done (behind c.before.before.before z))
 
 counted-requires : tie.Need-counted-seen-requires invariant-loop decreases-loop
 counted-requires c κs =
-    let i = c.before.before.before.before.before.before.before.before.before.before.before.loop-v.invariant.0 in
+    let i = c.loop-v.invariant.0 in
     let m = met-small _ i.met in
-    let r = c.before.before.before.before.before.before.before.before.before.before.before.before.before.requires.1 in
+    let r = c.requires.1 in
     omega (arith, i.few, m, r)
 
 loop-less : tie.Need-loop-v-smaller invariant-loop decreases-loop
@@ -86,9 +86,9 @@ loop-less c = let k = entry_at _ _ (whole c.before.before.before.before.before.b
 
 loop-again : tie.Need-loop-v-preserved invariant-loop decreases-loop
 loop-again c =
-    let i = c.before.before.before.before.before.before.before.before.before.before.before.before.loop-v.invariant in
+    let i = c.loop-v.invariant in
     let n = c.counted-seen in
-    (scanning-next _ _ i.0 _ (whole c.before.before.before.before.before.before.before.before.before.before.before) (sym c.before.before.before.before.before.before.before.if-number-ne0.false ∙ c.before.before.before.before.before.before.before.before.early_fault-number.ensures) c.before.before.before.no_record.ensures c.before.before.if-no_record.false _ refl n.result n.ensures.0 n.ensures.1, behind c.before.before.before.before.before)
+    (scanning-next _ _ i.0 _ (whole c.before.before.before.before.before.before.before.before.before.before.before) (sym c.if-number-ne0.false ∙ c.early_fault-number.ensures) c.no_record.ensures c.if-no_record.false _ refl n.result n.ensures.0 n.ensures.1, behind c.before.before.before.before.before)
 
 pub scan_spec : {M : Type 1} → statement M
 scan_spec =
