@@ -4,7 +4,6 @@ use Prim.Native.Nat.{◌≤◌}
 use native.Mathlib.Omega.{arith}
 use lib.ListN.{length}
 use borrow.Author.Rules.{rules}
-use borrow.Author.Tests.{not-true, not-false}
 use Rattle.page.specs.Layout.{page_limit, pages_in}
 use Rattle.page.proofs.Verdicts.{right-size}
 use Rattle.doublewrite.specs.Write.{rises}

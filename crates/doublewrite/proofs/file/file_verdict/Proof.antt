@@ -1,6 +1,5 @@
 use mathlib.Core.Path.{sym, ap, ◌∙◌}
 use borrow.Author.Rules.{rules}
-use borrow.Author.Tests.{not-true, not-false}
 use Rattle.doublewrite.specs.File.{file_bytes}
 use Rattle.doublewrite.proofs.FileLaws.{headed-size, headed-least, case-header, case-sum, case-mark, case-ids, case-fine}
 use Rattle.doublewrite.proofs.file.file_verdict.Statement.{statement}

@@ -12,16 +12,15 @@ use Rattle.doublewrite.proofs.file.summed.Statement.{statement}
 use Rattle.doublewrite.proofs.file.summed.Tie as tie
 
 slice-aggregate-crc32c : tie.Need-slice_bounds-crc32c-end
-slice-aggregate-crc32c c = let s = c.before.before in sym (length-take-le s.slot-place.result s.before.before.args.file.now (omega arith))
+slice-aggregate-crc32c c = sym (length-take-le c.slot_place-e.result c.args.file.now (omega arith))
 
 returns : tie.Need-returns
 unfolding is_summed
 returns c =
-    let s = c.before.before.before in
-    let f = s.before.args.file.now in
+    let f = c.args.file.now in
     ap₂ eqb
-    (c.before.u32_at.ensures ∙ ap (λ (n : ℕ). number_at 4 n f) s.slot_place-e.ensures)
-    (c.crc32c.ensures ∙ ap (λ (n : ℕ). crc32c (take n f)) s.slot_place-e.ensures)
+    (c.u32_at.ensures ∙ ap (λ (n : ℕ). number_at 4 n f) c.slot_place-e.ensures)
+    (c.crc32c.ensures ∙ ap (λ (n : ℕ). crc32c (take n f)) c.slot_place-e.ensures)
 
 pub summed_spec : {M : Type 1} → statement M
 summed_spec = tie.close (tie.spec (λ c κs. search rules) (λ c κs. search rules) slice-aggregate-crc32c (λ c κs. search rules) returns)

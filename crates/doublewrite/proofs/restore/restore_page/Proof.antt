@@ -1,6 +1,5 @@
 use mathlib.Core.Path.{sym, ap, ◌∙◌}
 use borrow.Author.Rules.{rules}
-use borrow.Author.Tests.{not-true, not-false}
 use mathlib.Core.List.{List}
 use Prim.Native.Nat.{ℕ, ◌*◌}
 use lib.Seq.{paste}
@@ -13,39 +12,25 @@ use Rattle.doublewrite.proofs.restore.restore_page.Tie as tie
 
 returns : tie.Need-returns-then-not-torn
 returns c =
-    let t = c.before in
-    let d = t.before.before.before in
-    let a = d.before.before.args in
-    left-whole a.magic d.id_at-id.result (id_at a.file.now a.k) d.id_at-id.ensures a.pages.now (copy_at a.file.now a.k)
-    (sym t.torn.ensures ∙ c.if-not-torn.true)
+    let a = c.args in
+    left-whole a.magic c.id_at-id.result (id_at a.file.now a.k) c.id_at-id.ensures a.pages.now (copy_at a.file.now a.k)
+    (sym c.torn.ensures ∙ c.if-not-torn.true)
 
 returns-2 : tie.Need-returns-then-not-good
 returns-2 c =
-    let g = c.before in
-    let p = g.before.before in
-    let e = p.before in
-    let t = e.before in
-    let d = t.before.before.before in
-    let a = d.before.before.args in
+    let a = c.args in
     let f = a.file.now in
-    left-bad a.magic d.id_at-id.result (id_at f a.k) d.id_at-id.ensures a.pages.now (copy_at f a.k) (sym t.torn.ensures ∙ e.if-not-torn.false)
-    (ap (is_good a.magic d.id_at-id.result) (sym (copy-part f a.k p.slot_place-p.result p.slot_place-p.ensures)) ∙ sym g.good2.ensures ∙ c.if-not-good.true)
+    left-bad a.magic c.id_at-id.result (id_at f a.k) c.id_at-id.ensures a.pages.now (copy_at f a.k) (sym c.torn.ensures ∙ c.if-not-torn.false)
+    (ap (is_good a.magic c.id_at-id.result) (sym (copy-part f a.k c.slot_place-p.result c.slot_place-p.ensures)) ∙ sym c.good.ensures ∙ c.if-not-good.true)
 
 returns-3 : tie.Need-returns
 returns-3 c =
-    let s = c.before.before in
-    let h = s.before.before.before in
-    let g = h.before in
-    let p = g.before.before in
-    let e = p.before in
-    let t = e.before in
-    let d = t.before.before.before in
-    let a = d.before.before.args in
+    let a = c.args in
     let f = a.file.now in
-    let z = copy-part f a.k p.slot_place-p.result p.slot_place-p.ensures in
-    left-restored a.magic d.id_at-id.result (id_at f a.k) d.id_at-id.ensures a.pages.now (copy_at f a.k) (sym t.torn.ensures ∙ e.if-not-torn.false) _
-    (ap (is_good a.magic d.id_at-id.result) (sym z) ∙ sym g.good2.ensures ∙ h.if-not-good.false)
-    (s.store.ensures ∙ ap (λ (q : List ℕ). paste a.pages.now (d.id_at-id.result * page_bytes) q page_bytes) z)
+    let z = copy-part f a.k c.slot_place-p.result c.slot_place-p.ensures in
+    left-restored a.magic c.id_at-id.result (id_at f a.k) c.id_at-id.ensures a.pages.now (copy_at f a.k) (sym c.torn.ensures ∙ c.if-not-torn.false) _
+    (ap (is_good a.magic c.id_at-id.result) (sym z) ∙ sym c.good.ensures ∙ c.if-not-good.false)
+    (c.store.ensures ∙ ap (λ (q : List ℕ). paste a.pages.now (c.id_at-id.result * page_bytes) q page_bytes) z)
 
 pub restore_page_spec : {M : Type 1} → statement M
 restore_page_spec =
