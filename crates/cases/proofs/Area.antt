@@ -1,17 +1,17 @@
 -- Packed pages one after the other: their number, and each of them.
 -- Assumes nothing.
-use mathlib.Core.Path.{◌≡◌, refl, sym, ap, ◌∙◌}
+use mathlib.Core.Path.{◌≡◌, refl, ap, ◌∙◌}
 use mathlib.Core.Logic.{inl, inr}
-use Prim.Native.Nat.{ℕ, zero, suc, ◌+◌, ◌*◌, ◌/◌, ◌^◌, ◌≤◌, ◌<◌}
+use Prim.Native.Nat.{ℕ, zero, suc, ◌+◌, ◌*◌, ◌^◌, ◌≤◌, ◌<◌}
 use native.Mathlib.Omega.{arith}
 use native.Mathlib.Nat.{add-zero}
-use mathlib.Core.List.{List, [], ◌∷◌, ◌++◌}
+use mathlib.Core.List.{List, [], ◌∷◌}
 use lib.ListN.{length, get_or, replicate, length-append}
 use lib.Dec.{lit<, lit≤}
 use Rattle.endian.specs.Numbers.{Bytes, number_of, number_at}
 use Rattle.endian.proofs.Bytes.{bytes-nil, bytes-append, bytes-zeros}
 use Rattle.page.specs.Layout.{page_bytes, body_bytes, data_type, pages_in, page_at, type_of, lsn_of, count_of, slot_at}
-use Rattle.page.specs.Packed.{Head, packed, room_for}
+use Rattle.page.specs.Packed.{room_for}
 use Rattle.page.specs.Good.{Good, TupleGood}
 use Rattle.page.proofs.Fields.{count-back, lsn-back, type-back}
 use Rattle.page.proofs.Slots.{length-packed, slot-back}

@@ -2,11 +2,11 @@
 -- intake's theorem about recovered pages, so the order is found.
 -- Assumes nothing.
 use mathlib.Core.Path.{◌≡◌, refl, sym, ap, ◌∙◌, subst}
-use mathlib.Core.Bool.{true, false}
-use Prim.Native.Nat.{ℕ, zero, suc, ◌+◌, ◌≤◌, ◌<◌}
+use mathlib.Core.Bool.{true}
+use Prim.Native.Nat.{ℕ, ◌+◌, ◌<◌}
 use native.Mathlib.Omega.{arith}
-use mathlib.Core.List.{List, [], ◌∷◌, ◌++◌, append-nil}
-use lib.ListN.{length, take, drop, get_or, replicate, drop_of_length-le}
+use mathlib.Core.List.{List, [], ◌∷◌, append-nil}
+use lib.ListN.{length, take, replicate, drop_of_length-le}
 use lib.Seq.{take_all}
 use lib.Dec.{lit<, lit≤}
 use Rattle.endian.specs.Numbers.{bytes_of, number_of, number_at, Bytes}
@@ -14,7 +14,7 @@ use Rattle.endian.proofs.Bytes.{bytes-nil, bytes-cons, bytes-append, bytes-of, b
 use Rattle.wal.specs.Entry.{Entry, Encodable, AllEncodable, encoded, encoded_all, unsealed, header, sizes_of}
 use Rattle.wal.specs.Walk.{entries, file_of}
 use Rattle.wal.proofs.Encoding.{entries-log, length-log}
-use Rattle.page.specs.Layout.{data_type, pages_in, page_at, type_of, slot_at, payload_of}
+use Rattle.page.specs.Layout.{data_type, pages_in, page_at, type_of, slot_at}
 use Rattle.page.specs.Rows.{visible, row, at_or_after}
 use Rattle.page.proofs.Goodness.{packed-bytes}
 use Rattle.rules.specs.Lent.{lent}
@@ -26,7 +26,7 @@ use Rattle.history.specs.History.{Step, logged, Honest, start, ledger}
 use Rattle.history.specs.Demand3.{History, Stands, HasFelt}
 use Rattle.intake.specs.Orders.{mark_of, order_found}
 use Rattle.intake.proofs.Recovered.{order-kept}
-use Rattle.cases.specs.Build.{begins, commits, inserts, log_of, magic, page, page_of, area, tuple}
+use Rattle.cases.specs.Build.{begins, commits, inserts, log_of, magic, page, area, tuple}
 use Rattle.cases.specs.Starred.{no_record}
 use Rattle.cases.proofs.Parts.{tuple-bytes, bare, insertable}
 use Rattle.cases.proofs.Area.{empty-ok, page-at, slot-of, type-of, pages-in}

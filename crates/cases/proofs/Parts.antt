@@ -1,20 +1,19 @@
 -- What the entries and tuples of the cases keep: entries can be encoded, tuples are bytes.
 -- Assumes nothing.
 use mathlib.Core.Path.{◌≡◌, refl}
-use mathlib.Core.Logic.{◌⊎◌, inl, inr}
 use mathlib.Core.Bool.{Bool, true, false}
-use Prim.Native.Nat.{ℕ, zero, suc, ◌+◌, ◌^◌, ◌≤◌, ◌<◌, max}
+use Prim.Native.Nat.{ℕ, suc, ◌+◌, ◌^◌, ◌≤◌, ◌<◌}
 use native.Mathlib.Omega.{arith}
 use native.Mathlib.Decide.{dec_le}
-use mathlib.Core.List.{List, [], ◌∷◌, ◌++◌}
-use lib.ListN.{length, get_or, replicate, length-append, length-replicate}
+use mathlib.Core.List.{List, [], ◌∷◌}
+use lib.ListN.{length, replicate, length-append, length-replicate}
 use lib.Dec.{eqb, lit<}
 use borrow.Author.Tests.{eqb-true}
 use Rattle.endian.specs.Pick.{pick}
-use Rattle.endian.specs.Numbers.{Bytes, bytes_of, number_at, number_of}
+use Rattle.endian.specs.Numbers.{Bytes, bytes_of}
 use Rattle.endian.proofs.Numbers.{length-bytes_of}
 use Rattle.endian.proofs.Bytes.{bytes, bytes-nil, bytes-cons, bytes-append, bytes-of, bytes-zeros}
-use Rattle.wal.specs.Entry.{Entry, Encodable, AllEncodable, unsealed, encoded, encoded_all, header, size_of, begin, commit, rollback, insert, delete, update}
+use Rattle.wal.specs.Entry.{Entry, Encodable, AllEncodable, unsealed, encoded, encoded_all, header}
 use Rattle.page.specs.Layout.{longest_tuple}
 use Rattle.rules.specs.Shape.{both, is_change, is_on, page_of, slot_of, top_on}
 use Rattle.rules.specs.Mend.{top_of}

@@ -1,15 +1,15 @@
 -- The starred cases: what is computed of each, and the table.
 -- Assumes nothing.
 use mathlib.Core.Path.{◌≡◌, refl, sym, ap, ◌∙◌}
-use mathlib.Core.Logic.{◌⊎◌, inl}
-use Prim.Native.Nat.{ℕ, ◌≤◌, ◌<◌}
+use mathlib.Core.Logic.{inl}
+use Prim.Native.Nat.{ℕ}
 use native.Mathlib.Omega.{arith}
 use mathlib.Core.List.{List, [], ◌∷◌, ◌++◌}
 use lib.ListN.{length, take, replicate}
 use lib.Dec.{lit<, lit≤}
 use Rattle.endian.specs.Numbers.{bytes_of, number_of, number_at}
 use Rattle.endian.proofs.Bytes.{bytes-nil}
-use Rattle.wal.specs.Entry.{Entry, encoded, unsealed, header}
+use Rattle.wal.specs.Entry.{encoded, unsealed, header}
 use Rattle.wal.specs.Read.{header_fault, read_at, all_zero}
 use Rattle.wal.specs.Walk.{views}
 use Rattle.wal.specs.declared.EntryView.{EntryView}
@@ -22,7 +22,7 @@ use Rattle.refusals.specs.Verdict.{accepted, ◌then◌}
 use Rattle.page.specs.Fault.{first_bad, size_wrong}
 use Rattle.refusals.specs.declared.Verdict.{Verdict}
 use Rattle.page.proofs.Fields.{body_back, free_start-back, free_end-back}
-use Rattle.rules.specs.Shape.{is_known, is_change, is_changing, is_image, same, is_keyed, is_bare, is_shaped, before_of, after_of, stamped, is_on, effect_on, top_on, same_slot}
+use Rattle.rules.specs.Shape.{is_known, is_changing, is_image, same, is_keyed, is_bare, is_shaped, before_of, after_of, stamped, is_on, effect_on, top_on, same_slot}
 use Rattle.rules.specs.Order.{begun, ended, is_open, in_order, clashes, fault_after, full_at, order_from, end_verdict, log_verdict}
 use Rattle.rules.specs.Mend.{committed, changes, top_of, decided}
 use Rattle.rules.specs.Recover.{stray_from, tight_from, recover_verdict, done}

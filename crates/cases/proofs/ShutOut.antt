@@ -10,10 +10,9 @@ use Rattle.wal.specs.Entry.{sizes_of}
 use Rattle.wal.specs.Walk.{ending_number}
 use Rattle.wal.specs.declared.Reading.{Reading}
 use Rattle.page.specs.Layout.{page_at, slot_at}
-use Rattle.rules.specs.Shape.{is_change, is_changing, is_on, effect_on, top_on, before_of, after_of}
+use Rattle.rules.specs.Shape.{is_changing, is_on, effect_on, top_on, before_of, after_of}
 use Rattle.rules.specs.Mend.{committed, changes, top_of, decided}
 use Rattle.rules.specs.Recover.{Recovered, recover_of, done, outcome_of, transactions, changes_of, changes_zero, touched_from}
-use Rattle.rules.specs.declared.Answer.{Answer}
 use Rattle.cases.specs.Build.{magic, page}
 use Rattle.cases.specs.Starred.{a, b, c, no_record}
 use Rattle.cases.specs.Example.{torn, whole, stood}

@@ -1,5 +1,5 @@
 -- Small logs and pages, built with their checksums in place.
-use Rattle.std.specs.Prelude.{ℕ, zero, suc, List, [], ◌∷◌, ◌++◌, replicate}
+use Rattle.std.specs.Prelude.{ℕ, suc, List, [], ◌∷◌, ◌++◌, replicate}
 use Rattle.endian.specs.Numbers.{bytes_of}
 use Rattle.wal.specs.Entry.{Entry, encoded_all, header, begin, commit, rollback, insert, delete, update}
 use Rattle.page.specs.Packed.{Head, packed}

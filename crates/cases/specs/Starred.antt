@@ -1,7 +1,7 @@
 -- The starred cases of paper 01: one table of inputs and what is expected, and one statement.
-use Rattle.std.specs.Prelude.{ℕ, zero, suc, ◌≡◌, List, [], ◌∷◌, ◌++◌, take, replicate}
+use Rattle.std.specs.Prelude.{ℕ, ◌≡◌, List, [], ◌∷◌, ◌++◌, take, replicate}
 use Rattle.endian.specs.Numbers.{bytes_of}
-use Rattle.wal.specs.Entry.{Entry, encoded, header}
+use Rattle.wal.specs.Entry.{encoded, header}
 use Rattle.page.specs.Layout.{page_at, body_of, slot_at, slot_off, free_start_of, free_end_of, xmax_of, deleted_of}
 use Rattle.rules.specs.Recover.{Recovered, recover_of}
 use Rattle.rules.specs.declared.Record.{Record}

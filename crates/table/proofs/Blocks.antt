@@ -1,20 +1,20 @@
 -- The rows of a block in front of a slice: what is lent of it, and what comes back.
 -- Assumes nothing.
-use mathlib.Core.Path.{◌≡◌, refl, sym, ap, ap₂, ◌∙◌, subst}
+use mathlib.Core.Path.{◌≡◌, refl, sym, ap, ap₂, ◌∙◌}
 use mathlib.Core.Bool.{Bool, true, false}
-use Prim.Native.Nat.{ℕ, ◌+◌, ◌*◌, ◌/◌, ◌≤◌, ◌<◌}
+use Prim.Native.Nat.{ℕ, ◌+◌, ◌*◌, ◌/◌, ◌≤◌}
 use native.Mathlib.Omega.{arith}
 use mathlib.Core.List.{List, ◌++◌, map}
 use lib.ListN.{length, take, drop, length-append}
 use lib.Seq.{length-take-le, take_all, take_at, drop_at}
 use lib.Dec.{ltb}
 use borrow.Author.Tests.{ltb-true, ltb-false}
-use Rattle.wal.specs.Walk.{entries, end_of}
+use Rattle.wal.specs.Walk.{entries}
 use Rattle.wal.specs.Prefix.{Met, before, onward}
-use Rattle.wal.proofs.Prefix.{onward-first, met-split, met-end, before-end, met-small}
+use Rattle.wal.proofs.Prefix.{met-split, met-end, before-end, met-small}
 use Rattle.rules.specs.Order.{count, is_begin}
 use Rattle.table.specs.Flat.{stride, flat_after}
-use Rattle.table.specs.Rows.{rows, Full}
+use Rattle.table.specs.Rows.{rows}
 use Rattle.table.specs.Telling.{begun_rows, Span, tell}
 use Rattle.table.specs.declared.Row.{Row}
 use Rattle.table.proofs.Storing.{rows_append, rows_take, rows_drop}

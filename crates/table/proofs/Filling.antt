@@ -1,6 +1,6 @@
 -- The walk that puts a row for each Begin.
 -- Assumes nothing.
-use mathlib.Core.Path.{◌≡◌, refl, sym, ap, ◌∙◌, subst}
+use mathlib.Core.Path.{◌≡◌, refl, sym, ap, ◌∙◌}
 use mathlib.Core.Bool.{Bool, true, false}
 use Prim.Native.Nat.{ℕ, suc, ◌+◌, ◌/◌, ◌≤◌, ◌<◌}
 use native.Mathlib.Numerals.{add-one}
@@ -10,11 +10,9 @@ use lib.ListN.{length, get_or, set, take, drop, length-drop}
 use lib.Seq.{length-take-le, take-suc, drop-cons, append_snoc, set_at}
 use lib.Dec.{ltb}
 use borrow.Author.Tests.{eq-eqb, ne_eqb, ltb-true, ltb-false}
-use Rattle.endian.specs.Pick.{cons_if}
-use Rattle.wal.specs.Entry.{Entry, begin, entry_of}
-use Rattle.wal.specs.Read.{length_at, view}
+use Rattle.wal.specs.Entry.{begin, entry_of}
 use Rattle.wal.specs.Walk.{end_of}
-use Rattle.wal.specs.Prefix.{entry_in, said, Stands, Met, onward}
+use Rattle.wal.specs.Prefix.{entry_in, said, Met, onward}
 use Rattle.wal.specs.declared.EntryView.{EntryView}
 use Rattle.wal.proofs.Prefix.{view-kind, onward-next, onward-end}
 use Rattle.wal.proofs.Known.{Ahead}

@@ -1,28 +1,27 @@
 -- A block of rows behind its three numbers: made, and read.
 -- Assumes nothing.
-use mathlib.Core.Path.{◌≡◌, refl, sym, ap, ap₂, ◌∙◌, subst}
+use mathlib.Core.Path.{◌≡◌, refl, sym, ap, ◌∙◌, subst}
 use mathlib.Core.Bool.{Bool, true, false}
-use Prim.Native.Nat.{ℕ, zero, suc, ◌+◌, ◌-◌, ◌*◌, ◌/◌, ◌≤◌, ◌<◌}
+use Prim.Native.Nat.{ℕ, zero, suc, ◌+◌, ◌-◌, ◌/◌, ◌≤◌, ◌<◌}
 use native.Mathlib.Omega.{arith}
 use mathlib.Core.List.{List, [], ◌∷◌, ◌++◌, append-nil, map}
-use lib.ListN.{length, get_or, set, take, drop, length-append, length-drop, length-map, drop_of_length-le, take-append-drop}
+use lib.ListN.{length, get_or, set, take, drop, length-append, length-drop, length-map, drop_of_length-le}
 use lib.Dec.{ltb}
 use borrow.Author.Tests.{ltb-true, ltb-false}
 use lib.Seq.{length-take-le, take_all, take_at, get_or-take, get_or-drop, drop-drop}
 use Rattle.endian.specs.Pick.{pick}
 use Rattle.wal.specs.Entry.{Entry, commit, rollback}
-use Rattle.wal.specs.Walk.{entries, end_of}
-use Rattle.wal.specs.Prefix.{Met, onward}
+use Rattle.wal.specs.Walk.{entries}
+use Rattle.wal.specs.Prefix.{onward}
 use Rattle.wal.proofs.Prefix.{onward-first, met-first}
-use Rattle.rules.specs.Order.{any, is, count, is_begin}
-use Rattle.rules.specs.Recover.{outcome_of, record_of, records_of}
+use Rattle.rules.specs.Order.{any, is}
+use Rattle.rules.specs.Recover.{outcome_of, records_of}
 use Rattle.rules.specs.declared.Record.{Record}
 use Rattle.table.specs.Flat.{stride}
 use Rattle.table.specs.Rows.{row_for, blank, rows, Full}
 use Rattle.table.specs.Telling.{reach, begun_rows, Span, tell}
 use Rattle.table.specs.Holding.{head, next_of, base_of, count_of, Space, Held, HeldTo, no_record}
 use Rattle.table.specs.declared.Row.{Row}
-use Rattle.table.proofs.Storing.{rows-length}
 use Rattle.table.proofs.Telling.{get_d_map}
 use Rattle.table.proofs.Blocks.{begun-few}
 use Rattle.table.proofs.Flattening.{told-records, records-many}

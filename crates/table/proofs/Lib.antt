@@ -13,7 +13,5 @@ pub mod Flattening
 pub mod Blocks
 pub mod Holding
 pub mod Stages
-pub mod Clauses
-pub mod Scratch
 pub mod Rising
 pub mod Times

@@ -6,8 +6,8 @@ use Prim.Native.Nat.{ℕ, zero, suc, ◌+◌, ◌*◌, ◌/◌, ◌≤◌, ◌<�
 use native.Mathlib.Numerals.{add-one}
 use native.Mathlib.Omega.{arith}
 use mathlib.Core.List.{List, [], ◌∷◌, ◌++◌, append_assoc, append-nil, map}
-use lib.ListN.{length, get_or, set, take, drop, length-append, length-drop, length-map, take-append-drop}
-use lib.Seq.{length-take-le, take_all, take_at, drop_at, drop-drop, set_at, drop-cons, append_snoc}
+use lib.ListN.{length, get_or, set, take, drop, length-append, length-map, take-append-drop}
+use lib.Seq.{length-take-le, take_all, take_at, drop_at, drop-drop, set_at, drop-cons}
 use lib.Dec.{ltb}
 use borrow.Author.Tests.{eqb-true, eq-eqb, ne_eqb, ltb-true, ltb-false}
 use Rattle.endian.specs.Pick.{cons_if}
@@ -15,12 +15,12 @@ use Rattle.endian.specs.declared.Lsn.{Lsn}
 use Rattle.wal.specs.Entry.{Entry, begin, entry_of}
 use Rattle.wal.specs.Read.{length_at}
 use Rattle.wal.specs.Walk.{entries, end_of}
-use Rattle.wal.specs.Prefix.{entry_in, said, Met, before, onward}
+use Rattle.wal.specs.Prefix.{said, Met, before, onward}
 use Rattle.wal.specs.declared.EntryView.{EntryView}
 use Rattle.wal.proofs.Prefix.{view-kind, view-txn, before-first, before-next, before-end, onward-first, onward-next, met-first, met-split}
 use Rattle.wal.proofs.Known.{Ahead}
 use Rattle.rules.specs.Order.{is_begin, never_full}
-use Rattle.rules.proofs.OrderLaws.{Passes, InTurn, numbered}
+use Rattle.rules.proofs.OrderLaws.{Passes, InTurn}
 use Rattle.table.specs.Flat.{stride}
 use Rattle.table.specs.Rows.{blank, rows, key, Rising}
 use Rattle.table.specs.Telling.{Orderly, new_row, fresh, begun_rows, Span, tell, Entered, begins}

@@ -1,6 +1,6 @@
 -- One entry more: what it tells of the row of its transaction, and of no other.
 -- Assumes nothing.
-use mathlib.Core.Path.{◌≡◌, refl, sym, ap, ◌∙◌, subst}
+use mathlib.Core.Path.{◌≡◌, refl, sym, ap, ◌∙◌}
 use mathlib.Core.Bool.{Bool, true, false, not}
 use Prim.Native.Nat.{ℕ, zero, suc, ◌+◌, ◌≤◌, ◌<◌}
 use native.Mathlib.Omega.{arith}
@@ -11,7 +11,7 @@ use borrow.Author.Tests.{eqb-true, eq-eqb, ne_eqb, ltb-true, ltb-false}
 use Rattle.endian.specs.Pick.{pick}
 use Rattle.wal.specs.Entry.{Entry, begin, commit, rollback}
 use Rattle.rules.specs.Shape.{both, either, is_change, is_changing}
-use Rattle.rules.specs.Order.{one, count, any, is, is_begin, begun, ended, is_open, in_order, last_lsn}
+use Rattle.rules.specs.Order.{one, count, any, is, begun, ended, is_open, in_order, last_lsn}
 use Rattle.rules.specs.Recover.{outcome_of, is_change_by, is_end_of, those}
 use Rattle.rules.proofs.Tests.{both_true, both-none, either-none, either-false, not-true}
 use Rattle.rules.proofs.OrderLaws.{Passes}

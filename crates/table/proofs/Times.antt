@@ -6,19 +6,18 @@ use Prim.Native.Nat.{ℕ, ◌≤◌, ◌<◌}
 use native.Mathlib.Omega.{arith}
 use mathlib.Core.List.{List, [], ◌∷◌, ◌++◌, append_assoc, append-nil}
 use lib.Dec.{eqb}
-use borrow.Author.Tests.{eqb-true, eq-eqb, ne_eqb}
-use Rattle.endian.specs.Pick.{pick, cons_if}
+use borrow.Author.Tests.{eqb-true, ne_eqb}
+use Rattle.endian.specs.Pick.{cons_if}
 use Rattle.wal.specs.Entry.{Entry, begin, commit, rollback, checkpoint}
 use Rattle.wal.specs.Walk.{entries}
 use Rattle.rules.specs.Shape.{both, either, is_change, is_changing}
 use Rattle.rules.specs.Order.{any, is, is_begin, begun, ended, is_open, in_order, last_lsn, never_full}
 use Rattle.rules.specs.Recover.{is_change_by, is_end_of, those, record_of, records_of}
-use Rattle.rules.specs.declared.Record.{Record}
 use Rattle.rules.proofs.Tests.{false-true, both_true, both-none, either-false, not-true}
 use Rattle.rules.proofs.OrderLaws.{Passes, InTurn, numbered, last_snoc}
 use Rattle.rules.proofs.Times.{last-those, none-those, none-ends}
 use Rattle.table.specs.Telling.{Orderly}
-use Rattle.table.specs.Times.{Timed, AllTimed}
+use Rattle.table.specs.Times.{AllTimed}
 use Rattle.table.proofs.Telling.{both-all}
 use Rattle.table.proofs.Walking.{turn-all}
 use Rattle.table.proofs.Begins.{unbegun, quiet}

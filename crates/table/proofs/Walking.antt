@@ -1,12 +1,12 @@
 -- The walk that enters a log's entries into rows, and what a log in order tells at each of its places.
 -- Assumes nothing.
-use mathlib.Core.Path.{◌≡◌, refl, sym, ap, ◌∙◌, subst}
+use mathlib.Core.Path.{◌≡◌, sym, ap, ◌∙◌, subst}
 use Prim.Native.Nat.{ℕ, ◌+◌, ◌≤◌, ◌<◌}
 use native.Mathlib.Omega.{arith}
 use mathlib.Core.List.{List, [], ◌∷◌, ◌++◌, append_assoc, append-nil, map}
 use lib.ListN.{length, get_or, length-append}
 use Rattle.wal.specs.Entry.{Entry, entry_of}
-use Rattle.wal.specs.Read.{first, view}
+use Rattle.wal.specs.Read.{first}
 use Rattle.wal.specs.Walk.{entries, end_of}
 use Rattle.wal.specs.Prefix.{entry_in, said, Stands, Met, before, onward}
 use Rattle.wal.specs.declared.EntryView.{EntryView}

@@ -1,5 +1,5 @@
 -- Internal: the row of a transaction as entries tell it, one after the other.
-use Rattle.std.specs.Prelude.{ℕ, ◌+◌, ◌*◌, ◌/◌, ◌≤◌, ◌<◌, ◌≡◌, List, [], ◌∷◌, ◌++◌, map, length, get_or, set, take, drop, eqb}
+use Rattle.std.specs.Prelude.{ℕ, ◌+◌, ◌≤◌, ◌<◌, ◌≡◌, List, [], ◌∷◌, map, length, get_or, set, drop, eqb}
 use Rattle.endian.specs.Pick.{pick, cons_if}
 use Rattle.endian.specs.declared.Lsn.{Lsn}
 use Rattle.endian.specs.declared.TxnNumber.{TxnNumber}
@@ -10,8 +10,7 @@ use Rattle.wal.specs.Prefix.{Met, before, onward}
 use Rattle.rules.specs.Shape.{is_changing}
 use Rattle.rules.specs.Order.{count, is_begin, last_lsn, never_full, order_from}
 use Rattle.rules.specs.Recover.{outcome_of, is_change_by, is_end_of, those}
-use Rattle.table.specs.Flat.{stride}
-use Rattle.table.specs.Rows.{blank, rows, Rising}
+use Rattle.table.specs.Rows.{blank, Rising}
 use Rattle.table.specs.declared.Row.{Row}
 
 -- a shorter log has places that fit 31 bits

@@ -1,5 +1,5 @@
 -- When each order was final: the LSNs of a record stand in the order first, last change, ending, wherever they are not 0 (paper 02, W8).
-use Rattle.std.specs.Prelude.{ℕ, ◌<◌, ◌≡◌, List, [], ◌∷◌}
+use Rattle.std.specs.Prelude.{◌<◌, ◌≡◌, List, [], ◌∷◌}
 use Rattle.rules.specs.declared.Record.{Record}
 
 pub record Timed (r : Record) : Type 0 where

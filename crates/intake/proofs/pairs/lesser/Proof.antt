@@ -3,17 +3,17 @@ use Rattle.intake.specs.Blocks.{lesser_of}
 use Rattle.intake.proofs.pairs.lesser.Statement.{statement}
 use Rattle.intake.proofs.pairs.lesser.Tie as tie
 
-returns : tie.Need-returns
+returns : tie.Need-returns-then-second-first
 unfolding lesser_of
-returns c = rw (le-leb _ _ c.if1.true)
+returns c = rw (le-leb _ _ c.if-second-first.true)
 
-returns-2 : tie.Need-returns-2
+returns-2 : tie.Need-returns-then-p-first
 unfolding lesser_of
-returns-2 c = rw (lt-leb _ _ c.before.before.if1.false, le-leb _ _ c.if2.true)
+returns-2 c = rw (lt-leb _ _ c.before.before.if-second-first.false, le-leb _ _ c.if-p-first.true)
 
-returns-3 : tie.Need-returns-3
+returns-3 : tie.Need-returns
 unfolding lesser_of
-returns-3 c = rw (lt-leb _ _ c.before.before.if1.false, lt-leb _ _ c.if2.false)
+returns-3 c = rw (lt-leb _ _ c.before.before.if-second-first.false, lt-leb _ _ c.if-p-first.false)
 
-pub lesser-spec : {M : Type 1} → statement M
-lesser-spec = tie.close (tie.spec returns returns-2 returns-3)
+pub lesser_spec : {M : Type 1} → statement M
+lesser_spec = tie.close (tie.spec returns returns-2 returns-3)

@@ -10,31 +10,31 @@ use Rattle.intake.proofs.Walking.{places-ascend}
 use Rattle.intake.proofs.pairs.pass.Statement.{statement}
 use Rattle.intake.proofs.pairs.pass.Tie as tie
 
-abbrev invariant-loop : tie.invariant-loop
+abbrev invariant-loop : tie.invariant-loop-n
 invariant-loop pages index slot a best₀ i₀ k₀ best i k = Scan (mark_at pages) a (places_from pages index slot) (places_from pages i k) best
 
-abbrev decreases-loop : tie.decreases-loop
+abbrev decreases-loop : tie.decreases-loop-n
 decreases-loop pages index slot a best₀ i₀ k₀ best i k = length (places_from pages i k)
 
-returns : tie.Need-returns invariant-loop decreases-loop
-returns c = scan-end _ _ _ _ _ (c.before.next-order.ensures.none c.if1.true) c.before.before.loop.invariant
+returns : tie.Need-returns-then-n invariant-loop decreases-loop
+returns c = scan-end _ _ _ _ _ (c.before.next_order-n.ensures.none c.if-n.true) c.before.before.loop-n.invariant
 
-low-at-requires : tie.Need-low-at-requires invariant-loop decreases-loop
-low-at-requires c κs = (c.before.next-order.ensures.some c.if1.false).1
+low-at-requires : tie.Need-low_at-requires invariant-loop decreases-loop
+low-at-requires c κs = (c.before.next_order-n.ensures.some c.if-n.false).1
 
-high-at-requires : tie.Need-high-at-requires invariant-loop decreases-loop
-high-at-requires c κs = (c.before.before.next-order.ensures.some c.before.if1.false).1
+high-at-requires : tie.Need-high_at-requires invariant-loop decreases-loop
+high-at-requires c κs = (c.before.before.next_order-n.ensures.some c.before.if-n.false).1
 
-loop-less : tie.Need-loop-smaller invariant-loop decreases-loop
-loop-less c = omega (arith, ap length (c.before.before.before.before.before.next-order.ensures.some c.before.before.before.before.if1.false).0)
+loop-less : tie.Need-loop-n-smaller invariant-loop decreases-loop
+loop-less c = omega (arith, ap length (c.before.before.before.before.before.next_order-n.ensures.some c.before.before.before.before.if-n.false).0)
 
-loop-again : tie.Need-loop-preserved invariant-loop decreases-loop
+loop-again : tie.Need-loop-n-preserved invariant-loop decreases-loop
 loop-again c =
     let s = c.before.before.before.before.before.before.before.before.before in
-    let m = c.before.before.before.before.before.next-order.ensures.some c.before.before.before.before.if1.false in
-    rw c.lesser.ensures
-    (scan-more _ _ _ _ _ _ _ _ (places-ascend s.args.pages.now s.requires.1.0 s.requires.0 s.args.index s.args.slot) m.0 m.1.small c.before.before.before.before.before.before.loop.invariant
-    (firstly-halves _ _ _ _ _ c.before.before.before.low-at.ensures c.before.before.high-at.ensures c.before.first-with.ensures))
+    let m = c.before.before.before.before.before.next_order-n.ensures.some c.before.before.before.before.if-n.false in
+    rw c.lesser-best.ensures
+    (scan-more _ _ _ _ _ _ _ _ (places-ascend s.args.pages.now s.requires.1.0 s.requires.0 s.args.index s.args.slot) m.0 m.1.small c.before.before.before.before.before.before.loop-n.invariant
+    (firstly-halves _ _ _ _ _ c.before.before.before.low_at.ensures c.before.before.high_at.ensures c.before.first_with-f.ensures))
 
 pub pass_spec : {M : Type 1} → statement M
 pass_spec =

@@ -13,42 +13,28 @@ use Rattle.table.proofs.Finding.{found_number, found_none}
 use Rattle.table.proofs.inner.enter.Statement.{statement}
 use Rattle.table.proofs.inner.enter.Tie as tie
 
-returns : tie.Need-returns
-returns c = (zero c.if1.true refl, omega arith)
+returns : tie.Need-returns-then-t-eq0
+returns c = (zero c.if-t-eq0.true refl, omega arith)
 
-returns-2 : tie.Need-returns-2
-returns-2 c = (begins c.before.before.before.before.if2.true refl, omega arith)
+returns-2 : tie.Need-returns-then-kind-eq-BEGIN
+returns-2 c = (begins c.if-kind-eq-BEGIN.true refl, omega arith)
 
-returns-3 : tie.Need-returns-3
-returns-3 c =
-    let find = c.before.before.before in
-    let start = find.before.before.before.before.before.before.before.before in
-    (other (found_none find.find.ensures (omega (arith, rows-length start.args.a.now, c.if3.true))) refl, omega arith)
+returns-3 : tie.Need-returns-then-a-j
+returns-3 c = (other (found_none c.find-j.ensures (omega (arith, rows-length c.args.a.now, c.if-a-j.true))) refl, omega arith)
 
 told-requires : tie.Need-told-requires
 told-requires c κs =
-    let read = c.before in
-    let find = read.before.before.before.before.before in
-    let start = find.before.before.before.before.before.before.before.before in
-    let e = ap (λ (r : Row). r.changes) read.row_at.ensures in
-    omega (arith, e, start.requires.1.0 find.find.result (omega (arith, rows-length start.args.a.now, read.before.before.if3.false)))
+    let e = ap (λ (r : Row). r.changes) c.row_at-r.ensures in
+    omega (arith, e, c.requires.1.0 c.find-j.result (omega (arith, rows-length c.args.a.now, c.if-a-j.false)))
 
 put-requires : tie.Need-put-requires
-put-requires c κs =
-    let read = c.before.before in
-    let find = read.before.before.before.before.before in
-    let start = find.before.before.before.before.before.before.before.before in
-    (start.requires.1.1.0, omega (arith, read.before.before.if3.false))
+put-requires c κs = (c.requires.1.1.0, omega (arith, c.if-a-j.false))
 
-returns-4 : tie.Need-returns-4
+returns-4 : tie.Need-returns
 returns-4 c =
-    let put = c.before.before in
-    let read = put.before.before.before in
-    let find = read.before.before.before.before.before in
-    let start = find.before.before.before.before.before.before.before.before in
-    let below : find.find.result < length (rows start.args.a.now) = omega (arith, rows-length start.args.a.now, read.before.before.if3.false) in (
-      own find.find.result below (found_number find.find.ensures below)
-          (put.put.ensures ∙ ap (set (rows start.args.a.now) find.find.result) (put.before.told.ensures ∙ ap (told_by start.args.kind start.args.lsn) read.row_at.ensures)),
+    let below : c.find-j.result < length (rows c.args.a.now) = omega (arith, rows-length c.args.a.now, c.if-a-j.false) in (
+      own c.find-j.result below (found_number c.find-j.ensures below)
+          (c.put.ensures ∙ ap (set (rows c.args.a.now) c.find-j.result) (c.told.ensures ∙ ap (told_by c.args.kind c.args.lsn) c.row_at-r.ensures)),
       omega arith,
     )
 

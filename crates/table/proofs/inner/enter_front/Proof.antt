@@ -15,7 +15,7 @@ use Rattle.table.proofs.Rising.{front-entered, front-left}
 use Rattle.table.proofs.inner.enter_front.Statement.{statement}
 use Rattle.table.proofs.inner.enter_front.Tie as tie
 
-aggregate : tie.Need-slice-aggregate-enter
+aggregate : tie.Need-slice_bounds-enter-end-2
 aggregate c = let start = c.before.before.before in sym (length-take-le _ _ (omega (arith, start.requires.1.1.0)))
 
 enter-requires : tie.Need-enter-requires
@@ -31,7 +31,7 @@ returns c =
     let enter = c.before.before.before.before in
     let start = enter.before.before.before.before.before in
     let h = start.requires.1.1.0 in
-    (front-entered _ _ _ h enter.enter.auto.0 enter.enter.ensures.0, front-left _ enter.enter.new.0 _ h enter.enter.auto.0)
+    (front-entered _ _ _ h enter.enter.auto.a enter.enter.ensures.0, front-left _ enter.enter.new.a _ h enter.enter.auto.a)
 
-pub enter-front-spec : {M : Type 1} → statement M
-enter-front-spec = tie.close (tie.spec (λ c. search rules) (λ c. search rules) aggregate enter-requires (λ c. search rules) (λ c. search rules) returns)
+pub enter_front_spec : {M : Type 1} → statement M
+enter_front_spec = tie.close (tie.spec (λ c. search rules) (λ c. search rules) aggregate enter-requires (λ c. search rules) (λ c. search rules) returns)

@@ -13,10 +13,10 @@ use Rattle.table.proofs.Blocks.{flat-table}
 use Rattle.table.proofs.inner.fill_flat.Statement.{statement}
 use Rattle.table.proofs.inner.fill_flat.Tie as tie
 
-aggregate : tie.Need-slice-aggregate-fill-rows
+aggregate : tie.Need-slice_bounds-fill_rows-end-2
 aggregate c = sym (length-take-le _ _ (omega arith))
 
-fill-rows-requires : tie.Need-fill-rows-requires
+fill-rows-requires : tie.Need-fill_rows-requires
 fill-rows-requires c κs =
     let start = c.before.before.before.before.before in
     let pre = start.requires in
@@ -27,7 +27,7 @@ returns : tie.Need-returns
 returns c =
     let fill = c.before.before.before.before in
     let pre = fill.before.before.before.before.before.before.requires in
-    flat-table _ _ fill.fill-rows.new.1.1.0 pre.1.0.2 fill.fill-rows.auto.1.1.0 fill.fill-rows.ensures
+    flat-table _ _ fill.fill_rows.new.a pre.1.0.2 fill.fill_rows.auto.a fill.fill_rows.ensures
 
-pub fill-flat-spec : {M : Type 1} → statement M
-fill-flat-spec = tie.close (tie.spec (λ c. search rules) (λ c. search rules) aggregate fill-rows-requires (λ c. search rules) (λ c. search rules) returns)
+pub fill_flat_spec : {M : Type 1} → statement M
+fill_flat_spec = tie.close (tie.spec (λ c. search rules) (λ c. search rules) aggregate fill-rows-requires (λ c. search rules) (λ c. search rules) returns)

@@ -1,6 +1,5 @@
 -- A guess that has the number is right, whatever it comes from.
 -- Assumes nothing.
-use mathlib.Core.Path.{sym}
 use borrow.Author.Rules.{rules}
 use native.Mathlib.Omega.{arith}
 use Rattle.table.proofs.Storing.{rows-length}
@@ -8,18 +7,18 @@ use Rattle.table.proofs.Finding.{found_at, found-le}
 use Rattle.table.proofs.inner.find.Statement.{statement}
 use Rattle.table.proofs.inner.find.Tie as tie
 
-cast-g : tie.Need-overflow-cast-g
-cast-g c = omega (arith, c.slice-known2.given c.before.slot.result)
+cast-g : tie.Need-overflow_cast-g
+cast-g c = omega (arith, c.slice_known-2-1.given c.before.slot-h.result)
 
-returns : tie.Need-returns
+returns : tie.Need-returns-then-key_at-t
 returns c =
     let start = c.before.before.before.before.before.before.before.before in
-    found_at (omega (arith, rows-length start.args.a.now, c.before.before.before.if1.true)) c.before.before.key-at.ensures c.if2.true
+    found_at (omega (arith, rows-length start.args.a.now, c.before.before.before.if-g-a.true)) c.before.before.key_at.ensures c.if-key_at-t.true
 
 keep-requires : tie.Need-keep-requires
 keep-requires c κs =
     let start = c.before.before.before.before.before.before.before in
-    (omega arith, omega (arith, found-le c.before.search.ensures, rows-length start.args.a.now, start.requires.1.1))
+    (omega arith, omega (arith, found-le c.before.search-r.ensures, rows-length start.args.a.now, start.requires.1.1))
 
 pub find_spec : {M : Type 1} → statement M
 find_spec =

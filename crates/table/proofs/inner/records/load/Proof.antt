@@ -7,23 +7,23 @@ use Rattle.table.proofs.Holding.{stored-long, loaded}
 use Rattle.table.proofs.inner.records.load.Statement.{statement}
 use Rattle.table.proofs.inner.records.load.Tie as tie
 
-write-base : tie.Need-slice-write-scratch-2
+write-base : tie.Need-bounds-scratch-1
 write-base c =
     let block = c.before.before.before in
     let start = block.before.before.before.before.before in
-    simp length-set (omega (arith, stored-long start.args.scratch.now block.block.new.1.1.1.0 start.requires.1.1.1.0 block.block.auto.1.1.1.0, start.requires.1.1.1.0.some))
+    simp length-set (omega (arith, stored-long start.args.scratch.now block.block-t.new.a start.requires.1.1.1.0 block.block-t.auto.a, start.requires.1.1.1.0.some))
 
-write-count : tie.Need-slice-write-scratch-3
+write-count : tie.Need-bounds-scratch-2
 write-count c =
     let block = c.before.before.before in
     let start = block.before.before.before.before.before in
-    simp length-set (omega (arith, stored-long start.args.scratch.now block.block.new.1.1.1.0 start.requires.1.1.1.0 block.block.auto.1.1.1.0, start.requires.1.1.1.0.some))
+    simp length-set (omega (arith, stored-long start.args.scratch.now block.block-t.new.a start.requires.1.1.1.0 block.block-t.auto.a, start.requires.1.1.1.0.some))
 
 returns : tie.Need-returns
 returns c =
     let block = c.before.before.before in
     let start = block.before.before.before.before.before in
-    loaded start.args.scratch.now block.block.new.1.1.1.0 start.requires.1.1.1.0 block.block.ensures.0 start.requires.1.1.1.1.0 start.requires.1.1.1.1.1 block.block.auto.1.1.1.0 block.block.ensures.1
+    loaded start.args.scratch.now block.block-t.new.a start.requires.1.1.1.0 block.block-t.ensures.0 start.requires.1.1.1.1.0 start.requires.1.1.1.1.1 block.block-t.auto.a block.block-t.ensures.1
 
 pub load_spec : {M : Type 1} → statement M
 load_spec =

@@ -6,22 +6,20 @@ use Rattle.table.proofs.Holding.{row_within, row-outcome, row-record, row-held}
 use Rattle.table.proofs.inner.records.nth_record.Statement.{statement}
 use Rattle.table.proofs.inner.records.nth_record.Tie as tie
 
-row-at-requires : tie.Need-row-at-requires
-row-at-requires c κs = let r = c.before.before.before.before.ready.ensures in row_within _ _ r.0 r.1 r.2
+row-at-requires : tie.Need-row_at-r-requires
+row-at-requires c κs = let r = c.ready-j.ensures in row_within _ _ r.0 r.1 r.2
 
-outcome : tie.Need-overflow-cast-t19
+outcome : tie.Need-overflow_cast-result
 outcome c =
-    let row = c.before.before.before.before.before in
-    let r = row.before.before.before.before.before.ready.ensures in
-    omega (arith, row-outcome _ _ r.0 r.1 r.2 row.row_at.result row.row_at.ensures)
+    let r = c.ready-j.ensures in
+    omega (arith, row-outcome _ _ r.0 r.1 r.2 c.row_at-r.result c.row_at-r.ensures)
 
 returns : tie.Need-returns
 returns c =
-    let row = c.before.before.before.before.before in
-    let r = row.before.before.before.before.before.ready.ensures in
-    (row-record _ _ r.0 r.1 r.2 row.row_at.result row.row_at.ensures, row-held _ _ r.0 r.1 r.2)
+    let r = c.ready-j.ensures in
+    (row-record _ _ r.0 r.1 r.2 c.row_at-r.result c.row_at-r.ensures, row-held _ _ r.0 r.1 r.2)
 
-pub nth-record-spec : {M : Type 1} → statement M
-nth-record-spec =
+pub nth_record_spec : {M : Type 1} → statement M
+nth_record_spec =
     tie.close
     (tie.spec (λ c κs. search rules) (λ c. search rules) (λ c. search rules) (λ c. search rules) (λ c. search rules) row-at-requires outcome (λ c. search rules) returns)

@@ -17,19 +17,19 @@ load-first c κs =
     (pre.orderly, (met-first _, ((pre.ends, pre.short), (pre.space, (omega (arith, pre.begun, begun-length (entries start.args.log.now)), begun_first _)))))
 
 -- what the block holds where a record was taken before
-held : (c : tie.Else1) → let a = c.before.before.before.args in HeldTo a.log.now a.scratch.now a.i
-held c = c.before.before.before.requires.held (omega (arith, c.if1.false))
+held : (c : tie.Else-i-eq0) → let a = c.before.before.before.args in HeldTo a.log.now a.scratch.now a.i
+held c = c.before.before.before.requires.held (omega (arith, c.if-i-eq0.false))
 
-add-if2 : tie.Need-overflow-add-if2
+add-if2 : tie.Need-overflow_add-base
 add-if2 c = let e = c.before.before in record { fits = held_small (held e).held e.before.before.before.requires.short }
 
-sub-result : tie.Need-overflow-sub-result
+sub-result : tie.Need-overflow_sub-result
 sub-result c = (held c.before.before.before).low
 
-returns-2 : tie.Need-returns-2
+returns-2 : tie.Need-returns-then-i-base
 returns-2 c =
     let h = held c.before.before.before in
-    (h.held, omega (arith, h.low), omega (arith, h.low, c.if2.true))
+    (h.held, omega (arith, h.low), omega (arith, h.low, c.if-i-base.true))
 
 load-next : tie.Need-load-requires-2
 load-next c κs =
@@ -37,9 +37,9 @@ load-next c κs =
     let h = held e.before.before.before in
     let start = e.before.before.before.before.before.before in
     let pre = start.requires in
-    (pre.orderly, (h.held.met, ((pre.ends, pre.short), (pre.space, (omega (arith, pre.begun, begun-length (entries start.args.log.now)), begun-next h e.if2.false)))))
+    (pre.orderly, (h.held.met, ((pre.ends, pre.short), (pre.space, (omega (arith, pre.begun, begun-length (entries start.args.log.now)), begun-next h e.if-i-base.false)))))
 
-pub ready-spec : {M : Type 1} → statement M
-ready-spec =
+pub ready_spec : {M : Type 1} → statement M
+ready_spec =
     tie.close
     (tie.spec load-first (λ c. search rules) (λ c. search rules) (λ c. search rules) (λ c. search rules) add-if2 sub-result returns-2 (λ c. search rules) load-next (λ c. search rules) (λ c. search rules))
