@@ -4,13 +4,13 @@ use borrow.Author.Rules.{rules}
 use Rattle.timed.proofs.timed_crc32c.Statement.{statement}
 use Rattle.timed.proofs.timed_crc32c.Tie as tie
 
-returns : tie.Need-returns
+returns : tie.Need-returns-then-n-eq0
 unfolding mixed
-returns c = rw (c.if1.true, div-zero)
+returns c = rw (c.if-n-eq0.true, div-zero)
 
-mixed-of-requires : tie.Need-mixed-of-requires
-mixed-of-requires c κs = (c.before.tables.ensures, div-mul-le_self _ _)
+mixed-of-requires : tie.Need-mixed_of-requires
+mixed-of-requires c κs = (c.tables-t.ensures, div-mul-le_self _ _)
 
-pub timed-crc32c-spec : {M : Type 1} → statement M
-timed-crc32c-spec =
+pub timed_crc32c_spec : {M : Type 1} → statement M
+timed_crc32c_spec =
     tie.close (tie.spec returns (λ c κs. search rules) (λ c. search rules) mixed-of-requires (λ c. search rules))

@@ -7,5 +7,5 @@ use Rattle.timed.proofs.timed_verify.Tie as tie
 returns : tie.Need-returns
 returns c = ap (λ (v : Verdict). v.number) c.verify.ensures
 
-pub timed-verify-spec : {M : Type 1} → statement M
-timed-verify-spec = tie.close (tie.spec (λ c κs. search rules) returns)
+pub timed_verify_spec : {M : Type 1} → statement M
+timed_verify_spec = tie.close (tie.spec (λ c κs. search rules) returns)

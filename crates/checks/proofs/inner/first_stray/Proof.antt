@@ -10,53 +10,53 @@ use native.Mathlib.Omega.{arith}
 use Rattle.checks.proofs.inner.first_stray.Statement.{statement}
 use Rattle.checks.proofs.inner.first_stray.Tie as tie
 
-abbrev invariant-loop : tie.invariant-loop
+abbrev invariant-loop : tie.invariant-loop-at
 invariant-loop log end pages n at₀ at = Met log at × (stray_from pages (entries log) 32 ≡ stray_from pages (onward log at) at)
 
-abbrev decreases-loop : tie.decreases-loop
+abbrev decreases-loop : tie.decreases-loop-at
 decreases-loop log end pages n at₀ at = end - at
 
 -- the entry that was read
-at_entry : (f : tie.After-standing invariant-loop decreases-loop) → Step f.before.before.before.before.before.args.log.now f.before.before.loop.at f.before.before.before.before.before.args.end f.standing.result
-at_entry f = step f.before.before.loop.invariant.0 f.before.before.before.before.before.requires.0.0 f.before.loop-test.true _ f.standing.ensures
+at_entry : (f : tie.After-standing-v invariant-loop decreases-loop) → Step f.args.log.now f.loop-at.at f.args.end f.standing-v.result
+at_entry f = step f.loop-at.invariant.0 f.requires.0.0 f.loop-at-test.true _ f.standing-v.ensures
 
-loop-holds : tie.Need-loop-init invariant-loop decreases-loop
+loop-holds : tie.Need-loop-at-init invariant-loop decreases-loop
 loop-holds c = (met-first _, stray-first _ _)
 
-standing-requires : tie.Need-standing-requires invariant-loop decreases-loop
-standing-requires c κs = (still c.before.loop.invariant.0 c.before.before.before.before.requires.0.0 c.loop-test.true).stands
+standing-requires : tie.Need-standing-v-requires invariant-loop decreases-loop
+standing-requires c κs = (still c.loop-at.invariant.0 c.requires.0.0 c.loop-at-test.true).stands
 
-is-stray-requires : tie.Need-is-stray-requires invariant-loop decreases-loop
+is-stray-requires : tie.Need-is_stray-requires invariant-loop decreases-loop
 is-stray-requires c κs =
-    let p = c.before.before.before.before.before.requires in
-    ((at_entry c).stands, (view-kind _ _ c.standing.ensures, p.1.shaped c.before.before.loop.invariant.0 c.before.loop-test.true, p.0.1))
+    let p = c.requires in
+    ((at_entry c).stands, (view-kind _ _ c.standing-v.ensures, p.1.shaped c.loop-at.invariant.0 c.loop-at-test.true, p.0.1))
 
-returns : tie.Need-returns invariant-loop decreases-loop
+returns : tie.Need-returns-then-is_stray invariant-loop decreases-loop
 returns c =
     let f = c.before.before in
-    stray-found _ _ f.before.loop-test.true (f.before.before.loop.invariant.1 ∙ stray-here _ _ _ (at_entry f).stands (sym c.before.is-stray.ensures ∙ c.if1.true))
+    stray-found _ _ f.loop-at-test.true (f.loop-at.invariant.1 ∙ stray-here _ _ _ (at_entry f).stands (sym c.is_stray.ensures ∙ c.if-is_stray.true))
 
-add_at : tie.Need-overflow-add-at invariant-loop decreases-loop
+add_at : tie.Need-overflow_add-at invariant-loop decreases-loop
 add_at c =
     let f = c.before.before.before in
     let k = stands_at (at_entry f).stands in
-    omega (arith, k.room, (at_entry f).long, k.front, f.before.before.before.before.before.well-formed.0)
+    omega (arith, k.room, (at_entry f).long, k.front, f.well_formed.0)
 
-loop-less : tie.Need-loop-smaller invariant-loop decreases-loop
-loop-less c = let f = c.before.before.before in omega (arith, (at_entry f).low, f.before.loop-test.true)
+loop-less : tie.Need-loop-at-smaller invariant-loop decreases-loop
+loop-less c = let f = c.before.before.before in omega (arith, (at_entry f).low, f.loop-at-test.true)
 
-loop-again : tie.Need-loop-preserved invariant-loop decreases-loop
+loop-again : tie.Need-loop-at-preserved invariant-loop decreases-loop
 loop-again c =
     let f = c.before.before.before in
     let e = at_entry f in
-    (e.met, f.before.before.loop.invariant.1 ∙ stray-next _ _ _ e.stands _ (ap (λ (x : ℕ). f.before.before.loop.at + x) e.long) (sym c.before.before.is-stray.ensures ∙ c.before.if1.false))
+    (e.met, f.loop-at.invariant.1 ∙ stray-next _ _ _ e.stands _ (ap (λ (x : ℕ). f.loop-at.at + x) e.long) (sym c.is_stray.ensures ∙ c.if-is_stray.false))
 
-returns-2 : tie.Need-returns-2 invariant-loop decreases-loop
+returns-2 : tie.Need-returns invariant-loop decreases-loop
 returns-2 c =
-    let l = c.before.loop in
-    stray-none c.before.before.before.before.args.end (l.invariant.1 ∙ stray-end _ _ _ (arrived l.invariant.0 c.before.before.before.before.requires.0.0 (omega arith)))
+    let l = c.loop-at in
+    stray-none c.args.end (l.invariant.1 ∙ stray-end _ _ _ (arrived l.invariant.0 c.requires.0.0 (omega arith)))
 
-pub first-stray-spec : {M : Type 1} → statement M
-first-stray-spec =
+pub first_stray_spec : {M : Type 1} → statement M
+first_stray_spec =
     tie.close
     (tie.spec invariant-loop decreases-loop loop-holds standing-requires is-stray-requires returns add_at loop-less loop-again returns-2)

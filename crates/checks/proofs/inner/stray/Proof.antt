@@ -5,11 +5,11 @@ use borrow.Author.Rules.{rules}
 use Rattle.checks.proofs.inner.stray.Statement.{statement}
 use Rattle.checks.proofs.inner.stray.Tie as tie
 
-returns : tie.Need-returns
+returns : tie.Need-returns-then-of_data
 returns c =
-    let a = c.before.before.before.before.before in
+    let a = c in
     let p = a.requires in
-    stray-none a.args.end (stray-nowhere _ _ _ _ _ _ p.0.1 p.0.0 p.1.1.1 c.before.before.if1.true p.1.1.0 (c.before.of-data.ensures c.if2.true))
+    stray-none a.args.end (stray-nowhere _ _ _ _ _ _ p.0.1 p.0.0 p.1.1.1 c.if-beyond-end.true p.1.1.0 (c.of_data.ensures c.if-of_data.true))
 
-pub stray-spec : {M : Type 1} → statement M
-stray-spec = tie.close (tie.spec (λ c κs. search rules) returns (λ c κs. search rules) (λ c. search rules))
+pub stray_spec : {M : Type 1} → statement M
+stray_spec = tie.close (tie.spec (λ c κs. search rules) returns (λ c κs. search rules) (λ c. search rules))

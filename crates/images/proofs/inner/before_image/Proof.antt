@@ -9,44 +9,44 @@ use Rattle.images.proofs.inner.before_image.Statement.{statement}
 use Rattle.images.proofs.inner.before_image.Tie as tie
 
 -- the entry lies in the log
-low : (c : tie.After-standing) → c.before.before.args.at + 43 ≤ length c.before.before.args.log.now
-low c = let p = c.before.before.requires in place-low p.0 p.1.0 p.1.1 c.standing.ensures
+low : (c : tie.After-standing-e) → c.args.at + 43 ≤ length c.args.log.now
+low c = let p = c.requires in place-low p.0 p.1.0 p.1.1 c.standing-e.ensures
 
-add-in-log : tie.Need-overflow-add-in-log
-add-in-log c = let f = c.before.before in omega (arith, low f, f.before.before.well-formed.0)
+add-in-log : tie.Need-overflow_add-at
+add-in-log c = let f = c.before.before in omega (arith, low f, f.well_formed.0)
 
-returns : tie.Need-returns
+returns : tie.Need-returns-then-e-eq4
 returns c =
-    let f = c.before.before.before in
-    let p = f.before.before.requires in
-    before-insert p.0 p.1.0 p.1.1 f.standing.ensures c.before.if1.true c.in-log.ensures
+    let f = c in
+    let p = f.requires in
+    before-insert p.0 p.1.0 p.1.1 f.standing-e.ensures c.if-e-eq4.true c.in_log.ensures
 
-add-in-log-2 : tie.Need-overflow-add-in-log-2
-add-in-log-2 c = let f = c.before.before.before.before in omega (arith, low f, f.before.before.well-formed.0)
+add-in-log-2 : tie.Need-overflow_add-at-then-e-eq5
+add-in-log-2 c = let f = c.before.before.before.before in omega (arith, low f, f.well_formed.0)
 
-returns-2 : tie.Need-returns-2
+returns-2 : tie.Need-returns-then-e-eq5
 returns-2 c =
-    let f = c.before.before.before.before.before in
-    let p = f.before.before.requires in
-    before-delete p.0 p.1.0 p.1.1 f.standing.ensures c.before.if2.true c.in-log2.ensures
+    let f = c in
+    let p = f.requires in
+    before-delete p.0 p.1.0 p.1.1 f.standing-e.ensures c.if-e-eq5.true c.in_log-then-e-eq5.ensures
 
-add-in-log-3 : tie.Need-overflow-add-in-log-3
-add-in-log-3 c = let f = c.before.before.before.before in omega (arith, low f, f.before.before.well-formed.0)
+add-in-log-3 : tie.Need-overflow_add-at-2
+add-in-log-3 c = let f = c.before.before.before.before in omega (arith, low f, f.well_formed.0)
 
-sub-in-log : tie.Need-overflow-sub-in-log
+sub-in-log : tie.Need-overflow_sub-e
 sub-in-log c =
-    let f = c.before.before.before.before.before in
-    let p = f.before.before.requires in
-    (update-lengths p.0 p.1.0 p.1.1 f.standing.ensures c.before.before.before.if1.false c.before.if2.false).0
+    let f = c in
+    let p = f.requires in
+    (update-lengths p.0 p.1.0 p.1.1 f.standing-e.ensures c.if-e-eq4.false c.if-e-eq5.false).0
 
-returns-3 : tie.Need-returns-3
+returns-3 : tie.Need-returns
 returns-3 c =
-    let f = c.before.before.before.before.before.before in
-    let p = f.before.before.requires in
-    before-update p.0 p.1.0 p.1.1 f.standing.ensures c.before.before.before.before.if1.false c.before.before.if2.false c.in-log3.ensures
+    let f = c in
+    let p = f.requires in
+    before-update p.0 p.1.0 p.1.1 f.standing-e.ensures c.if-e-eq4.false c.if-e-eq5.false c.in_log-2.ensures
 
-pub before-image-spec : {M : Type 1} → statement M
-before-image-spec =
+pub before_image_spec : {M : Type 1} → statement M
+before_image_spec =
     tie.close
     (tie.spec
     (λ c κs. search rules)

@@ -6,16 +6,16 @@ use borrow.Author.Rules.{rules}
 use Rattle.images.proofs.inner.kept_image.Statement.{statement}
 use Rattle.images.proofs.inner.kept_image.Tie as tie
 
-returns : tie.Need-returns
-returns c = kept-none c.before.before.before.before.requires _ (omega (arith, c.before.before.count.ensures.0, c.before.if1.true)) c.in-page.ensures
+returns : tie.Need-returns-then-count-k
+returns c = kept-none c.requires _ (omega (arith, c.count.ensures.0, c.if-count-k.true)) c.in_page.ensures
 
-returns-2 : tie.Need-returns-2
+returns-2 : tie.Need-returns
 returns-2 c =
-    let d = c.before.before.before in
-    kept-some d.before.before.before.requires _ (omega (arith, d.before.count.ensures.0, d.if1.false)) c.before.before.slot-off.ensures.0 c.before.slot-len.ensures.0 c.in-page2.ensures
+    let d = c in
+    kept-some d.requires _ (omega (arith, d.count.ensures.0, d.if-count-k.false)) c.slot_off.ensures.0 c.slot_len.ensures.0 c.in_page-2.ensures
 
-pub kept-image-spec : {M : Type 1} → statement M
-kept-image-spec =
+pub kept_image_spec : {M : Type 1} → statement M
+kept_image_spec =
     tie.close
     (tie.spec
     (λ c κs. search rules)

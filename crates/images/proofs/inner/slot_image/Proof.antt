@@ -10,40 +10,40 @@ use Rattle.images.proofs.inner.slot_image.Statement.{statement}
 use Rattle.images.proofs.inner.slot_image.Tie as tie
 
 -- a touched slot
-touched : (c : tie.Else1) → c.before.before.before.before.args.k < top_of c.before.before.before.before.args.i (entries c.before.before.before.before.args.log.now)
-touched c = omega (arith, top-is c.before.before.before.before.requires.1.0 c.before.top_of.ensures, c.if1.false)
+touched : (c : tie.Else-top_of-k) → c.args.k < top_of c.args.i (entries c.args.log.now)
+touched c = omega (arith, top-is c.requires.1.0 c.top_of.ensures, c.if-top_of-k.false)
 
-top-of-requires : tie.Need-top-of-requires
-top-of-requires c κs = let p = c.before.before.requires in (p.1.0.few, starts-rise p.1.0)
+top-of-requires : tie.Need-top_of-requires
+top-of-requires c κs = let p = c.requires in (p.1.0.few, starts-rise p.1.0)
 
-returns : tie.Need-returns
+returns : tie.Need-returns-then-top_of-k
 returns c =
-    let d = c.before.before in
-    let p = d.before.before.before.requires in
-    slot-untouched p.1.0 (omega (arith, top-is p.1.0 d.top_of.ensures, c.before.if1.true)) c.kept-image.ensures
+    let d = c in
+    let p = d.requires in
+    slot-untouched p.1.0 (omega (arith, top-is p.1.0 d.top_of.ensures, c.if-top_of-k.true)) c.kept_image.ensures
 
-mul-c : tie.Need-overflow-mul-c
-mul-c c = omega (arith, cell-small c.before.before.before.before.requires.1.0 (touched c))
+mul-c : tie.Need-offset_bounds-cells-k
+mul-c c = omega (arith, cell-small c.requires.1.0 (touched c))
 
-element-copy-out-c : tie.Need-element-copy-out-c
-element-copy-out-c c = cell-small c.before.before.before.before.requires.1.0 (touched c)
+element-copy-out-c : tie.Need-bounds-cells-k
+element-copy-out-c c = cell-small c.requires.1.0 (touched c.before)
 
-returns-2 : tie.Need-returns-2
+returns-2 : tie.Need-returns-then-c-eq0
 returns-2 c =
-    let d = c.before.before.before in
-    slot-left d.before.before.before.before.requires.1.0 (touched d) c.before.if2.true c.kept-image2.ensures
+    let d = c.before.before.before.before in
+    slot-left d.requires.1.0 (touched d) c.if-c-eq0.true c.kept_image-then-c-eq0.ensures
 
-won-image-requires : tie.Need-won-image-requires
+won-image-requires : tie.Need-won_image-requires
 won-image-requires c κs =
-    let d = c.before.before in
-    let p = d.before.before.before.before.requires in
-    (p.0, change-named p.1.0 (touched d) c.if2.false)
+    let d = c.before.before.before in
+    let p = d.requires in
+    (p.0, change-named p.1.0 (touched d) c.if-c-eq0.false)
 
-returns-3 : tie.Need-returns-3
-returns-3 c = let d = c.before.before.before in slot-won d.before.before.before.before.requires.1.0 (touched d) c.won-image.ensures
+returns-3 : tie.Need-returns
+returns-3 c = let d = c.before.before.before.before in slot-won d.requires.1.0 (touched d) c.won_image.ensures
 
-pub slot-image-spec : {M : Type 1} → statement M
-slot-image-spec =
+pub slot_image_spec : {M : Type 1} → statement M
+slot_image_spec =
     tie.close
     (tie.spec
     top-of-requires
