@@ -29,10 +29,8 @@ pub struct Key(pub Page, pub u16);
 
 // Bytes that tell their places and a seed.
 fn fill(s: &mut [u8], seed: u8) {
-    let mut i = 0;
-    while i < s.len() {
+    for i in 0..s.len() {
         s[i] = (i % 251) as u8 ^ seed;
-        i += 1;
     }
 }
 

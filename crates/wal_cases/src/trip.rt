@@ -1,4 +1,4 @@
-// A log reader, from its opening on: its steps are proved by hand, so those who call this need no such proof.
+// A log reader, from its opening on.
 ghost use Rattle.std.specs.Prelude.{◌≡◌};
 ghost use Rattle.wal_cases.specs.Trip.{trip_of};
 
@@ -16,6 +16,7 @@ pub struct Trip {
 }
 
 // A reader is opened and passed from step to step.
+#[tactic(auto, unfolding(crate::specs::Trip::trip_of))]
 pub fn there_and_back(log: &[u8], end: bool) -> Trip
     ensures { result ≡ trip_of end log.now }
 {
