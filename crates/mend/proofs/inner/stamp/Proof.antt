@@ -5,11 +5,11 @@ use Rattle.mend.proofs.inner.stamp.Tie as tie
 
 returns : tie.Need-returns
 returns c =
-    let p = c.before.before in
-    let s = p.before.before.before in
-    stamp-stored s.args.work.now _ s.args.at s.args.x s.requires p.put-u64.auto.0 p.put-u64.ensures
+    let p = c in
+    let s = c in
+    stamp-stored s.args.work.now _ s.args.at s.args.x s.requires p.put_u64.auto.s p.put_u64.ensures
 
-pub stamp-spec : {M : Type 1} → statement M
-stamp-spec =
+pub stamp_spec : {M : Type 1} → statement M
+stamp_spec =
     tie.close
     (tie.spec (λ c. search rules) (λ c κs. search rules) (λ c. search rules) (λ c. search rules) (λ c. search rules) returns)
