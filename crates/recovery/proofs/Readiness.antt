@@ -1,5 +1,5 @@
 -- What is known once recovery without a table accepts. Assumes nothing.
-use Rattle.core.specs.Prelude.{◌≡◌, ℕ, List}
+use Rattle.std.specs.Prelude.{◌≡◌, ℕ, List}
 use mathlib.Core.Path.{sym}
 use Rattle.refusals.specs.Verdict.{accepted}
 use Rattle.rules.specs.Lent.{lent}

@@ -1,5 +1,5 @@
 -- Reading a row gives what recovery leaves there. Assumes nothing.
-use Rattle.core.specs.Prelude.{◌≡◌, ℕ, ◌<◌, List}
+use Rattle.std.specs.Prelude.{◌≡◌, ℕ, ◌<◌, List}
 use mathlib.Core.Path.{sym}
 use borrow.Author.Tests.{eq-eqb}
 use Rattle.page.specs.Layout.{data_type, pages_in, page_at, type_of, slot_at}

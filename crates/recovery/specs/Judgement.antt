@@ -1,5 +1,5 @@
 -- Internal: what is known once every refusal has been looked for.
-use Rattle.core.specs.Prelude.{◌≡◌, ℕ, Bool, List}
+use Rattle.std.specs.Prelude.{◌≡◌, ℕ, Bool, List}
 use Rattle.wal.specs.Walk.{entries, end_of}
 use Rattle.page.specs.Layout.{pages_in}
 use Rattle.rules.specs.Order.{last_lsn}

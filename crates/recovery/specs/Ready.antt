@@ -1,5 +1,5 @@
 -- Internal: what is known of an accepted log and the pages before they are mended, and of the arrays that judging fills.
-use Rattle.core.specs.Prelude.{◌≡◌, ℕ, ◌*◌, ◌<◌, ◌≤◌, List, length}
+use Rattle.std.specs.Prelude.{◌≡◌, ℕ, ◌*◌, ◌<◌, ◌≤◌, List, length}
 use Rattle.wal.specs.Walk.{entries}
 use Rattle.page.specs.Layout.{page_bytes, data_type, pages_in, page_at, type_of}
 use Rattle.rules.specs.Mend.{top_of}

@@ -1,5 +1,5 @@
 -- Internal: where the tuple of a row stands, and its header, as they are found (paper 01, Numbers given back: reading a row).
-use Rattle.core.specs.Prelude.{◌≡◌, ℕ, ◌+◌, ◌-◌, ◌≤◌, Bool, true, false, ◌⊎◌, List, ◌==◌, ◌≢◌}
+use Rattle.std.specs.Prelude.{◌≡◌, ℕ, ◌+◌, ◌-◌, ◌≤◌, Bool, true, false, ◌⊎◌, List, ◌==◌, ◌≢◌}
 use Rattle.endian.specs.Pick.{pick}
 use Rattle.refusals.specs.Verdict.{verdict}
 use Rattle.rules.specs.Row.{row_verdict, tuple_of, Standing, in_log, in_pages, standing_of}

@@ -1,6 +1,6 @@
 // Recovery but for its table: judged, counted, mended.
 ghost use Rattle.rules.specs.Lent.{lent};
-ghost use Rattle.core.specs.Prelude.{◌≡◌, []};
+ghost use Rattle.std.specs.Prelude.{◌≡◌, []};
 ghost use Rattle.crc32c.specs.Tables.{Tables};
 ghost use Rattle.rules.specs.Order.{full_at};
 ghost use Rattle.rules.specs.Recover.{recover_verdict, recover_by, refused};

@@ -1,5 +1,5 @@
 // What other crates call with a `requires`: the refusals of recovery without a table, and one page decided after them.
-ghost use Rattle.core.specs.Prelude.{◌≡◌, ◌<◌};
+ghost use Rattle.std.specs.Prelude.{◌≡◌, ◌<◌};
 ghost use Rattle.crc32c.specs.Tables.{Tables};
 ghost use Rattle.wal.specs.Walk.{entries};
 ghost use Rattle.page.specs.Layout.{pages_in};

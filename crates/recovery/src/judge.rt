@@ -1,5 +1,5 @@
 // Every refusal of recovery, before anything lent is written.
-ghost use Rattle.core.specs.Prelude.{◌≡◌};
+ghost use Rattle.std.specs.Prelude.{◌≡◌};
 ghost use Rattle.crc32c.specs.Tables.{Tables};
 ghost use Rattle.order.specs.First.{full_of};
 ghost use Rattle.recovery.specs.Judgement.{Judgement, Gathered};

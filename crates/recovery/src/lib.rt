@@ -2,7 +2,7 @@
 #![tactic(auto)]
 
 ghost use Rattle.rules.specs.Lent.{lent};
-ghost use Rattle.core.specs.Prelude.{◌≡◌, ◌/◌, ◌≤◌, length};
+ghost use Rattle.std.specs.Prelude.{◌≡◌, ◌/◌, ◌≤◌, length};
 ghost use Rattle.wal.specs.Walk.{entries, end_of};
 ghost use Rattle.rules.specs.Order.{count, is_begin};
 ghost use Rattle.rules.specs.Recover.{recover_of};

@@ -1,6 +1,6 @@
 -- `recover_flat` meets its contract: the table is filled exactly where recovery is done.
 -- Assumes nothing.
-use Rattle.core.specs.Prelude.{◌≡◌, ◌/◌, [], length}
+use Rattle.std.specs.Prelude.{◌≡◌, ◌/◌, [], length}
 use mathlib.Core.Path.{sym, ap, ◌∙◌}
 use borrow.Author.Rules.{rules}
 use Rattle.table.specs.Flat.{stride}
@@ -14,40 +14,40 @@ use Rattle.recovery.proofs.recover_flat.Tie as tie
 use Rattle.rules.specs.Lent.{lent}
 
 -- the verdict where the answer's number is 0
-zero : (c : tie.Then1) → let a = c.before.before.before.before.before.before.before.before.before.args in
+zero : (c : tie.Then-a-eq0) → let a = c.args in
     (recover_verdict (full_at (length a.table.now / stride)) (lent a.magic a.floor.0 a.pages.now a.log.now)).number ≡ 0
 zero c =
-    let a = c.before.before.before.before.before.before.before.before.before.args in
-    answer-zero (recover_verdict (full_at (length a.table.now / stride)) (lent a.magic a.floor.0 a.pages.now a.log.now)) a.pages.now a.log.now [] (sym (ap (λ (a : Answer). a.number) c.before.before.before.before.recover.ensures.0) ∙ c.if1.true)
+    let a = c.args in
+    answer-zero (recover_verdict (full_at (length a.table.now / stride)) (lent a.magic a.floor.0 a.pages.now a.log.now)) a.pages.now a.log.now [] (sym (ap (λ (a : Answer). a.number) c.recover-a.ensures.0) ∙ c.if-a-eq0.true)
 
-fill-table-requires : tie.Need-fill-table-requires
+fill-table-requires : tie.Need-fill_table-requires
 fill-table-requires c κs =
     let t = c.before in
-    let r = t.before.before.before.before in
-    let a = r.before.before.before.before.before.args in
+    let r = c in
+    let a = r.args in
     let z = zero t in
     let s = sure _ _ _ _ _ z in
-    (s.ordered, (sym (ap (λ (a : Answer). a.tail) r.recover.ensures.0 ∙ answer-tail (recover_verdict (full_at (length a.table.now / stride)) (lent a.magic a.floor.0 a.pages.now a.log.now)) a.pages.now a.log.now [] z), s.small, begins-of _ _ _ _ _ z))
+    (s.ordered, (sym (ap (λ (a : Answer). a.tail) r.recover-a.ensures.0 ∙ answer-tail (recover_verdict (full_at (length a.table.now / stride)) (lent a.magic a.floor.0 a.pages.now a.log.now)) a.pages.now a.log.now [] z), s.small, begins-of _ _ _ _ _ z))
 
-returns : tie.Need-returns
+returns : tie.Need-returns-then-a-eq0
 returns c =
-    let f = c.before.before in
-    let t = f.before.before in
-    let r = t.before.before.before.before in
-    (r.recover.ensures.0 ∙ flat-answer _ _ _ _ _, (r.recover.ensures.1 ∙ flat-pages _ _ _ _ _, f.fill-table.ensures ∙ flat-done _ _ _ _ _ (zero t)))
+    let f = c in
+    let t = c.before.before.before.before in
+    let r = c in
+    (r.recover-a.ensures.0 ∙ flat-answer _ _ _ _ _, (r.recover-a.ensures.1 ∙ flat-pages _ _ _ _ _, f.fill_table.ensures ∙ flat-done _ _ _ _ _ (zero t)))
 
-returns-2 : tie.Need-returns-2
+returns-2 : tie.Need-returns-else-a-eq0
 returns-2 c =
-    let r = c.before.before.before.before in
-    let a = r.before.before.before.before.before.args in (
-      r.recover.ensures.0 ∙ flat-answer _ _ _ _ _,
+    let r = c in
+    let a = r.args in (
+      r.recover-a.ensures.0 ∙ flat-answer _ _ _ _ _,
       (
-        r.recover.ensures.1 ∙ flat-pages _ _ _ _ _,
-        flat-refused _ _ _ _ _ (answer-refused (recover_verdict (full_at (length a.table.now / stride)) (lent a.magic a.floor.0 a.pages.now a.log.now)) a.pages.now a.log.now [] (λ z. c.if1.false (ap (λ (a : Answer). a.number) r.recover.ensures.0 ∙ z))),
+        r.recover-a.ensures.1 ∙ flat-pages _ _ _ _ _,
+        flat-refused _ _ _ _ _ (answer-refused (recover_verdict (full_at (length a.table.now / stride)) (lent a.magic a.floor.0 a.pages.now a.log.now)) a.pages.now a.log.now [] (λ z. c.if-a-eq0.false (ap (λ (a : Answer). a.number) r.recover-a.ensures.0 ∙ z))),
       ),
     )
 
-pub recover-flat-spec : {M : Type 1} → statement M
-recover-flat-spec =
+pub recover_flat_spec : {M : Type 1} → statement M
+recover_flat_spec =
     tie.close
     (tie.spec (λ c κs. search rules) fill-table-requires (λ c. search rules) (λ c. search rules) returns (λ c. search rules) returns-2)

@@ -5,10 +5,10 @@ use Rattle.recovery.proofs.row_payload.Statement.{statement}
 use Rattle.recovery.proofs.row_payload.Tie as tie
 
 payload-requires : tie.Need-payload-requires
-payload-requires c κs = (c.before.find.ensures.lies, c.before.find.ensures.whole)
+payload-requires c κs = (c.find-s.ensures.lies, c.find-s.ensures.whole)
 
 returns : tie.Need-returns
-returns c = c.payload.ensures ∙ row-payload c.before.before.find.ensures
+returns c = c.payload.ensures ∙ row-payload c.find-s.ensures
 
-pub row-payload-spec : {M : Type 1} → statement M
-row-payload-spec = tie.close (tie.spec (λ c κs. search rules) payload-requires returns)
+pub row_payload_spec : {M : Type 1} → statement M
+row_payload_spec = tie.close (tie.spec (λ c κs. search rules) payload-requires returns)

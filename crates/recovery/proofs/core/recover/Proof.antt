@@ -3,7 +3,7 @@ use Rattle.recovery.proofs.core.recover.Statement.{statement}
 use Rattle.recovery.proofs.core.recover.Tie as tie
 
 run-requires : tie.Need-run-requires
-run-requires c κs = c.before.before.before.before.before.before.before.tables.ensures
+run-requires c κs = c.tables-t.ensures
 
-pub recover-spec : {M : Type 1} → statement M
-recover-spec = tie.close (tie.spec (λ c κs. search rules) run-requires (λ c. search rules) (λ c. search rules))
+pub recover_spec : {M : Type 1} → statement M
+recover_spec = tie.close (tie.spec (λ c κs. search rules) run-requires (λ c. search rules) (λ c. search rules))

@@ -1,6 +1,6 @@
 -- `head` meets its contract, case by case.
 -- Assumes nothing.
-use Rattle.core.specs.Prelude.{◌≡◌}
+use Rattle.std.specs.Prelude.{◌≡◌}
 use mathlib.Core.Path.{sym, ap, ◌∙◌}
 use native.Mathlib.Omega.{arith}
 use borrow.Author.Rules.{rules}
@@ -8,36 +8,36 @@ use Rattle.recovery.proofs.Heads.{tuple-logged, tuple-paged, tuple-empty, head-l
 use Rattle.recovery.proofs.row.head.Statement.{statement}
 use Rattle.recovery.proofs.row.head.Tie as tie
 
-returns : tie.Need-returns
-returns c = c.unfilled.ensures ∙ spot-head-refused _ _ _ _ _ c.before.if1.true
+returns : tie.Need-returns-then-s-ne0
+returns c = c.unfilled.ensures ∙ spot-head-refused _ _ _ _ _ c.if-s-ne0.true
 
-returns-2 : tie.Need-returns-2
+returns-2 : tie.Need-returns-then-m-eq0
 returns-2 c =
-    let t = c.before in
-    let e = t.before.before.before in
-    c.unfilled2.ensures ∙ spot-head _ _ _ _ _ e.if1.false (tuple-empty _ _ _ e.before.before.before.before.requires.0 t.if2.true)
+    let t = c in
+    let e = c in
+    c.unfilled-then-m-eq0.ensures ∙ spot-head _ _ _ _ _ e.if-s-ne0.false (tuple-empty _ _ _ e.requires.0 t.if-m-eq0.true)
 
-head-in-requires : tie.Need-head-in-requires
+head-in-requires : tie.Need-head_in-requires
 head-in-requires c κs =
-    let e = c.before in
-    let p = e.before.before.before.before.before.before.before.requires in
-    head-logged _ _ _ p.0 p.1 e.if2.false c.if3.true
+    let e = c in
+    let p = e.requires in
+    head-logged _ _ _ p.0 p.1 e.if-m-eq0.false c.if-m.true
 
-returns-3 : tie.Need-returns-3
+returns-3 : tie.Need-returns-then-m
 returns-3 c =
-    let e = c.before.before.before.before.before in
-    c.head_in.ensures ∙ spot-head _ _ _ _ _ e.if1.false (tuple-logged _ _ _ c.before.if3.true)
+    let e = c in
+    c.head_in.ensures ∙ spot-head _ _ _ _ _ e.if-s-ne0.false (tuple-logged _ _ _ c.if-m.true)
 
-head-in-requires-2 : tie.Need-head-in-requires-2
+head-in-requires-2 : tie.Need-head_in-requires-2
 head-in-requires-2 c κs =
-    let e = c.before in
-    let p = e.before.before.before.before.before.before.before.requires in
-    head-paged _ _ _ p.0 p.1 e.if2.false c.if3.false
+    let e = c in
+    let p = e.requires in
+    head-paged _ _ _ p.0 p.1 e.if-m-eq0.false c.if-m.false
 
-returns-4 : tie.Need-returns-4
+returns-4 : tie.Need-returns
 returns-4 c =
-    let e = c.before.before.before.before.before in
-    c.head-in2.ensures ∙ spot-head _ _ _ _ _ e.if1.false (tuple-paged _ _ _ c.before.if3.false)
+    let e = c in
+    c.head_in-2.ensures ∙ spot-head _ _ _ _ _ e.if-s-ne0.false (tuple-paged _ _ _ c.if-m.false)
 
 pub head_spec : {M : Type 1} → statement M
 head_spec = tie.close (tie.spec (λ c κs. search rules) returns (λ c κs. search rules) returns-2 head-in-requires returns-3 head-in-requires-2 returns-4)

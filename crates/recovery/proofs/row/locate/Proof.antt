@@ -1,4 +1,4 @@
-use Rattle.core.specs.Prelude.{◌≡◌}
+use Rattle.std.specs.Prelude.{◌≡◌}
 use mathlib.Core.Path.{sym, ap, ◌∙◌}
 use native.Mathlib.Omega.{arith}
 use Rattle.rules.specs.declared.RowHead.{RowHead}
@@ -11,14 +11,14 @@ use Rattle.recovery.proofs.row.locate.Tie as tie
 
 located-requires : tie.Need-located-requires
 located-requires c κs =
-    let s = c.before.before.before.before in
-    (s.requires.1, lies-small 18446744073709551616 s.requires.0 (omega (arith, s.well-formed.0)) (omega (arith, s.well-formed.1)))
+    let s = c in
+    (s.requires.1, lies-small 18446744073709551616 s.requires.0 (omega (arith, s.well_formed.0)) (omega (arith, s.well_formed.1)))
 
 returns : tie.Need-returns
 returns c =
-    let m = c.before.before.before.before.before.args.s.image in
-    let h = located-head c.before.before.head.result m.logged m.place m.length c.located.ensures in
-    (c.located.ensures ∙ ap (λ (x : RowHead). located_by x m.logged m.place m.length) (sym h), h ∙ c.before.before.head.ensures)
+    let m = c.args.s.image in
+    let h = located-head c.head-h.result m.logged m.place m.length c.located.ensures in
+    (c.located.ensures ∙ ap (λ (x : RowHead). located_by x m.logged m.place m.length) (sym h), h ∙ c.head-h.ensures)
 
-pub locate-spec : {M : Type 1} → statement M
-locate-spec = tie.close (tie.spec (λ c κs. search rules) located-requires returns)
+pub locate_spec : {M : Type 1} → statement M
+locate_spec = tie.close (tie.spec (λ c κs. search rules) located-requires returns)

@@ -1,6 +1,6 @@
 -- `look` meets its contract: the refusals of recovery, then 15, then the image that wins the slot.
 -- Assumes nothing.
-use Rattle.core.specs.Prelude.{◌≡◌}
+use Rattle.std.specs.Prelude.{◌≡◌}
 use mathlib.Core.Path.{sym, ◌∙◌}
 use native.Mathlib.Omega.{arith}
 use borrow.Author.Rules.{rules}
@@ -13,67 +13,67 @@ use Rattle.recovery.proofs.row.look.Statement.{statement}
 use Rattle.recovery.proofs.row.look.Tie as tie
 
 -- what the code knows behind the refusals of recovery, and of a page of type 1
-sured : (c : tie.Else1) → let a = c.before.before.before.before.before.before.before.before.before.before.before.args in Sure a.log.now a.pages.now
-sured c = sure _ _ _ _ _ (verdict-zero c.before.before.before.judge.ensures.0 c.if1.false)
+sured : (c : tie.Else-w-ne0) → let a = c.args in Sure a.log.now a.pages.now
+sured c = sure _ _ _ _ _ (verdict-zero c.judge-j.ensures.0 c.if-w-ne0.false)
 
-of-data : (c : tie.Else3) → let a = c.before.before.before.before.before.before.before.before.before.before.before.before.before.before.args in type_of (page_at a.page a.pages.now) ≡ data_type
+of-data : (c : tie.Else-pages-i-ne-DATA_TYPE) → let a = c.args in type_of (page_at a.page a.pages.now) ≡ data_type
 of-data c =
-    let a = c.before.before.before.before.before.before.before.before.before.before.before.before.before.before.args in
-    type_at a.pages.now a.page ∙ c.if3.false
+    let a = c.args in
+    type_at a.pages.now a.page ∙ c.if-pages-i-ne-DATA_TYPE.false
 
-page-sound : (c : tie.Else3) → let a = c.before.before.before.before.before.before.before.before.before.before.before.before.before.before.args in Sound (page_at a.page a.pages.now)
+page-sound : (c : tie.Else-pages-i-ne-DATA_TYPE) → let a = c.args in Sound (page_at a.page a.pages.now)
 page-sound c =
-    let o = c.before.before in
-    let e = o.before in
-    let a = e.before.before.before.before.before.before.before.before.before.before.before.args in
-    sound-page _ _ _ _ _ (verdict-zero e.before.before.before.judge.ensures.0 e.if1.false) a.page (omega (arith, o.if2.false)) (of-data c)
+    let o = c in
+    let e = c in
+    let a = e.args in
+    sound-page _ _ _ _ _ (verdict-zero e.judge-j.ensures.0 e.if-w-ne0.false) a.page (omega (arith, o.if-n-page.false)) (of-data c)
 
-returns : tie.Need-returns
+returns : tie.Need-returns-then-w-ne0
 returns c =
-    let t = c.before in
-    let j = t.before.before.before in
-    rw c.nowhere.ensures (spot-refused _ _ _ _ _ _ _ _ t.if1.true (row-refused _ _ _ _ _ _ t.if1.true (verdict-refused j.judge.ensures.0 t.if1.true)))
+    let t = c in
+    let j = c in
+    rw c.nowhere.ensures (spot-refused _ _ _ _ _ _ _ _ t.if-w-ne0.true (row-refused _ _ _ _ _ _ t.if-w-ne0.true (verdict-refused j.judge-j.ensures.0 t.if-w-ne0.true)))
 
-returns-2 : tie.Need-returns-2
+returns-2 : tie.Need-returns-then-n-page
 returns-2 c =
-    let e = c.before.before in
-    let j = e.before.before.before in
-    rw c.nowhere2.ensures (spot-refused _ _ _ _ _ _ 15 0 (λ z. absurd (omega arith)) (row-beyond _ _ _ _ _ (verdict-zero j.judge.ensures.0 e.if1.false) c.before.if2.true))
+    let e = c in
+    let j = c in
+    rw c.nowhere-then-n-page.ensures (spot-refused _ _ _ _ _ _ 15 0 (λ z. absurd (omega arith)) (row-beyond _ _ _ _ _ (verdict-zero j.judge-j.ensures.0 e.if-w-ne0.false) c.if-n-page.true))
 
-returns-3 : tie.Need-returns-3
+returns-3 : tie.Need-returns-then-pages-i-ne-DATA_TYPE
 returns-3 c =
-    let t = c.before in
-    let o = t.before.before in
-    let e = o.before in
-    let j = e.before.before.before in
-    let a = j.before.before.before.before.before.before.before.before.args in
-    rw c.nowhere3.ensures (spot-none _ _ _ _ _ _ (row-accepted _ _ _ _ _ (verdict-zero j.judge.ensures.0 e.if1.false) (omega (arith, o.if2.false))) (λ z. t.if3.true (sym (type_at a.pages.now a.page) ∙ z)))
+    let t = c in
+    let o = c in
+    let e = c in
+    let j = c in
+    let a = j.args in
+    rw c.nowhere-then-pages-i-ne-DATA_TYPE.ensures (spot-none _ _ _ _ _ _ (row-accepted _ _ _ _ _ (verdict-zero j.judge-j.ensures.0 e.if-w-ne0.false) (omega (arith, o.if-n-page.false))) (λ z. t.if-pages-i-ne-DATA_TYPE.true (sym (type_at a.pages.now a.page) ∙ z)))
 
-winning-requires : tie.Need-winning-requires
+winning-requires : tie.Need-winning-m-requires
 winning-requires c κs =
-    let n = c.before.before.before.before in
-    let e = n.before.before.before in
-    let d = e.before.before.before.judge.ensures in
-    let z = e.if1.false in
+    let n = c in
+    let e = c.before.before.before in
+    let d = e.judge-j.ensures in
+    let z = e.if-w-ne0.false in
     let s = sured e in
-    (s.ordered, (d.0.begin z, (d.1.begin z, (d.1.listed z, (page-sound n, (s.fitting, (s.small, s.size, s.few, omega (arith, n.before.before.if2.false))))))))
+    (s.ordered, (d.0.begin z, (d.1.begin z, (d.1.listed z, (page-sound n, (s.fitting, (s.small, s.size, s.few, omega (arith, n.if-n-page.false))))))))
 
-returns-4 : tie.Need-returns-4
+returns-4 : tie.Need-returns
 returns-4 c =
-    let n = c.before.before.before.before.before in
-    let o = n.before.before in
-    let e = o.before in
-    let j = e.before.before.before in
-    spot-found _ _ _ _ _ _ (row-accepted _ _ _ _ _ (verdict-zero j.judge.ensures.0 e.if1.false) (omega (arith, o.if2.false))) (of-data n) (sured e).ordered (page-sound n) c.winning.ensures.0 c.winning.ensures.1
+    let n = c.before in
+    let o = c in
+    let e = c.before.before.before.before in
+    let j = c in
+    spot-found _ _ _ _ _ _ (row-accepted _ _ _ _ _ (verdict-zero j.judge-j.ensures.0 e.if-w-ne0.false) (omega (arith, o.if-n-page.false))) (of-data n) (sured e).ordered (page-sound n) c.winning-m.ensures.0 c.winning-m.ensures.1
 
-mul-if3 : tie.Need-overflow-mul-if3
-mul-if3 c = omega (arith, (sured c.before).few, c.if2.false)
+mul-if3 : tie.Need-overflow_mul-i
+mul-if3 c = omega (arith, (sured c.before).few, c.if-n-page.false)
 
-add-if3 : tie.Need-overflow-add-if3
-add-if3 c = omega (arith, (sured c.before).few, c.if2.false)
+add-if3 : tie.Need-overflow_add-i
+add-if3 c = omega (arith, (sured c.before).few, c.if-n-page.false)
 
-read-if3 : tie.Need-shared-slice-read-if3
-read-if3 c = omega (arith, (sured c.before.before).size, c.before.if2.false)
+read-if3 : tie.Need-bounds-pages-i
+read-if3 c = omega (arith, (sured c.before.before).size, c.if-n-page.false)
 
 pub look_spec : {M : Type 1} → statement M
 look_spec =

@@ -5,11 +5,11 @@ use Rattle.recovery.proofs.row.pad_at.Tie as tie
 
 returns : tie.Need-returns
 returns c =
-    let a = c.before.before.before.args in
-    rw (c.before.u24-at.ensures, c.u32-at.ensures) (pad-parts a.place a.source.now)
+    let a = c.args in
+    rw (c.u24_at-low.ensures, c.u32_at-high.ensures) (pad-parts a.place a.source.now)
 
-pub pad-at-spec : {M : Type 1} → statement M
-pad-at-spec =
+pub pad_at_spec : {M : Type 1} → statement M
+pad_at_spec =
     tie.close
     (tie.spec
     (λ c. search rules)
