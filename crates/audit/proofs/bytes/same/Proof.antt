@@ -12,33 +12,33 @@ use Rattle.audit.proofs.Sameness.{same-lengths, same-past, same_not, same_rest}
 use Rattle.audit.proofs.bytes.same.Statement.{statement}
 use Rattle.audit.proofs.bytes.same.Tie as tie
 
-abbrev invariant-loop : tie.invariant-loop
+abbrev invariant-loop : tie.invariant-loop-i
 invariant-loop a b i₀ i = Bytes a × Bytes b × (length a ≡ length b) × (i ≤ length a) × (same a b ≡ same (drop i a) (drop i b))
 
-abbrev decreases-loop : tie.decreases-loop
+abbrev decreases-loop : tie.decreases-loop-i
 decreases-loop a b i₀ i = length a - i
 
-returns : tie.Need-returns invariant-loop decreases-loop
-returns c = same-lengths _ _ c.if1.true
+returns : tie.Need-returns-then-a-b invariant-loop decreases-loop
+returns c = same-lengths _ _ c.if-a-b.true
 
-loop-holds : tie.Need-loop-init invariant-loop decreases-loop
-loop-holds c = (record { at = λ k. omega (arith, c.before.before.shared-slice-known.given k) }, record { at = λ k. omega (arith, c.before.shared-slice-known2.given k) }, c.if1.false, omega arith, refl)
+loop-holds : tie.Need-loop-i-init invariant-loop decreases-loop
+loop-holds c = (record { at = λ k. omega (arith, c.shared_slice_known-1.given k) }, record { at = λ k. omega (arith, c.shared_slice_known-2-1.given k) }, c.if-a-b.false, omega arith, refl)
 
-returns-2 : tie.Need-returns-2 invariant-loop decreases-loop
+returns-2 : tie.Need-returns-then-u64_at invariant-loop decreases-loop
 returns-2 c =
-    let l = c.before.before.before.before.loop in
-    sym (l.invariant.4 ∙ same_not l.invariant.0 l.invariant.1 l.invariant.2 l.i (λ e. c.if2.true (c.before.before.u64-at.ensures ∙ e ∙ sym c.before.u64-at2.ensures)))
+    let l = c.loop-i in
+    sym (l.invariant.4 ∙ same_not l.invariant.0 l.invariant.1 l.invariant.2 l.i (λ e. c.if-u64_at.true (c.u64_at.ensures ∙ e ∙ sym c.u64_at-in-loop-i.ensures)))
 
-loop-again : tie.Need-loop-preserved invariant-loop decreases-loop
+loop-again : tie.Need-loop-i-preserved invariant-loop decreases-loop
 loop-again c =
-    let l = c.before.before.before.before.loop in
-    let e = sym c.before.before.u64-at.ensures ∙ c.if2.false ∙ c.before.u64-at2.ensures in
+    let l = c.loop-i in
+    let e = sym c.u64_at.ensures ∙ c.if-u64_at.false ∙ c.u64_at-in-loop-i.ensures in
     (l.invariant.0, l.invariant.1, l.invariant.2, omega arith, l.invariant.4 ∙ same-past l.invariant.0 l.invariant.1 l.invariant.2 l.i (omega arith) e)
 
-returns-3 : tie.Need-returns-3 invariant-loop decreases-loop
+returns-3 : tie.Need-returns invariant-loop decreases-loop
 returns-3 c =
-    let l = c.before.before.before.loop in
-    ap₂ eqb c.before.short-at.ensures c.short-at2.ensures ∙ same_rest l.invariant.0 l.invariant.1 l.invariant.2 l.i ∙ sym l.invariant.4
+    let l = c.loop-i in
+    ap₂ eqb c.short_at.ensures c.short_at-2.ensures ∙ same_rest l.invariant.0 l.invariant.1 l.invariant.2 l.i ∙ sym l.invariant.4
 
 pub same_spec : {M : Type 1} → statement M
 same_spec =

@@ -6,12 +6,12 @@ use Rattle.audit.proofs.Slotwise.{kept-within, agrees-by}
 use Rattle.audit.proofs.pages.slot_agrees.Statement.{statement}
 use Rattle.audit.proofs.pages.slot_agrees.Tie as tie
 
-same-tuple-requires : tie.Need-same-tuple-requires
-same-tuple-requires c κs = (c.before.slot-image.ensures.0.lies, kept-within c.kept-image.ensures.0 c.kept-image.ensures.1)
+same-tuple-requires : tie.Need-same_tuple-requires
+same-tuple-requires c κs = (c.slot_image-m.ensures.0.lies, kept-within c.kept_image-o.ensures.0 c.kept_image-o.ensures.1)
 
 returns : tie.Need-returns
 returns c =
-    c.same-tuple.ensures ∙ agrees-by _ _ _ c.before.before.slot-image.ensures.0 c.before.kept-image.ensures.0 c.before.kept-image.ensures.1
+    c.same_tuple.ensures ∙ agrees-by _ _ _ c.slot_image-m.ensures.0 c.kept_image-o.ensures.0 c.kept_image-o.ensures.1
 
-pub slot-agrees-spec : {M : Type 1} → statement M
-slot-agrees-spec = tie.close (tie.spec (λ c κs. search rules) (λ c κs. search rules) same-tuple-requires returns)
+pub slot_agrees_spec : {M : Type 1} → statement M
+slot_agrees_spec = tie.close (tie.spec (λ c κs. search rules) (λ c κs. search rules) same-tuple-requires returns)
