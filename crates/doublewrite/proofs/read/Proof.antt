@@ -6,17 +6,14 @@ use Rattle.doublewrite.proofs.FileLaws.{headed-least, accepted-file, read-many, 
 use Rattle.doublewrite.proofs.read.Statement.{statement}
 use Rattle.doublewrite.proofs.read.Tie as tie
 
-returns : tie.Need-returns-then-pages-gt-PAGE_LIMIT
-returns c = read-many _ _ c.before.if-pages-gt-PAGE_LIMIT.true c.refusal.ensures
-
-returns-2 : tie.Need-returns-then-v-ne0
-returns-2 c = let v = c.before.before in read-refused _ _ (omega arith) v.file_verdict-v.ensures c.if-v-ne0.true
+returns : tie.Need-returns-then-v-ne0
+returns c = let v = c.before.before in read-refused _ _ (omega arith) v.file_verdict-v.ensures c.if-v-ne0.true
 
 count-requires : tie.Need-count-requires
 count-requires c κs = let v = c.before.before in headed-least _ (accepted-file _ _ (sym (ap number_of v.file_verdict-v.ensures) ∙ c.if-v-ne0.false)).1
 
-returns-3 : tie.Need-returns
-returns-3 c = let v = c.before.before.before in read-fine _ _ (omega arith) v.file_verdict-v.ensures c.before.if-v-ne0.false c.count.result c.count.ensures.0
+returns-2 : tie.Need-returns
+returns-2 c = let v = c.before.before.before in read-fine _ _ (omega arith) v.file_verdict-v.ensures c.before.if-v-ne0.false c.count.result c.count.ensures.0
 
 pub read_spec : {M : Type 1} → statement M
-read_spec = tie.close (tie.spec (λ c κs. search rules) (λ c κs. search rules) returns (λ c κs. search rules) returns-2 count-requires returns-3)
+read_spec = tie.close (tie.spec (λ c κs. search rules) (λ c κs. search rules) (λ c. read-many _ _ (omega arith) c.refusal.ensures) (λ c κs. search rules) returns count-requires returns-2)
