@@ -8,8 +8,8 @@ use Rattle.capi.proofs.lq_doublewrite_read.Tie as tie
 
 returns : tie.Need-returns
 returns c =
-    let g = c.before.before in
-    given-as _ _ g.give.ensures (ap contents_numbers g.before.before.before.read.ensures)
+    let g = c in
+    given-as _ _ g.give.ensures (ap contents_numbers g.read-contents.ensures)
 
-pub lq-doublewrite-read-spec : {M : Type 1} → statement M
-lq-doublewrite-read-spec = tie.close (tie.spec (λ c κs. search rules) (λ c. search rules) (λ c κs. search rules) (λ c. search rules) returns)
+pub lq_doublewrite_read_spec : {M : Type 1} → statement M
+lq_doublewrite_read_spec = tie.close (tie.spec (λ c κs. search rules) (λ c. search rules) (λ c κs. search rules) (λ c. search rules) returns)

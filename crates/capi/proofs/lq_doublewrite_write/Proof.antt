@@ -8,9 +8,9 @@ use Rattle.capi.proofs.lq_doublewrite_write.Tie as tie
 
 returns : tie.Need-returns
 returns c =
-    let g = c.before.before in
-    let e = g.before.before.before.before.before.write.ensures in
+    let g = c in
+    let e = g.write-written.ensures in
     (given-as _ _ g.give.ensures (ap written_numbers e.0), e.1)
 
-pub lq-doublewrite-write-spec : {M : Type 1} → statement M
-lq-doublewrite-write-spec = tie.close (tie.spec (λ c κs. search rules) (λ c. search rules) (λ c κs. search rules) (λ c. search rules) (λ c. search rules) returns)
+pub lq_doublewrite_write_spec : {M : Type 1} → statement M
+lq_doublewrite_write_spec = tie.close (tie.spec (λ c κs. search rules) (λ c. search rules) (λ c κs. search rules) (λ c. search rules) (λ c. search rules) returns)

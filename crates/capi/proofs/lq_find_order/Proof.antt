@@ -8,9 +8,9 @@ use Rattle.capi.proofs.lq_find_order.Tie as tie
 
 returns : tie.Need-returns
 returns c =
-    let g = c.before.before in
-    let n = g.before.before.before in
-    given-as _ _ g.give.ensures (n.found-numbers.ensures ∙ ap found_numbers n.before.find.ensures)
+    let g = c in
+    let n = c in
+    given-as _ _ g.give.ensures (n.found_numbers.ensures ∙ ap found_numbers n.find-f.ensures)
 
-pub lq-find-order-spec : {M : Type 1} → statement M
-lq-find-order-spec = tie.close (tie.spec (λ c κs. search rules) (λ c κs. search rules) (λ c. search rules) (λ c κs. search rules) (λ c. search rules) returns)
+pub lq_find_order_spec : {M : Type 1} → statement M
+lq_find_order_spec = tie.close (tie.spec (λ c κs. search rules) (λ c κs. search rules) (λ c. search rules) (λ c κs. search rules) (λ c. search rules) returns)

@@ -8,9 +8,9 @@ use Rattle.capi.proofs.lq_free_map.Tie as tie
 returns : tie.Need-returns
 unfolding free_map_numbers
 returns c =
-    let g = c.before.before in
-    let e = g.before.before.before.before.before.free-map.ensures in
+    let g = c in
+    let e = g.free_map-made.ensures in
     (given-as _ _ g.give.ensures (rw (e.0, e.1.0)), e.1.1)
 
-pub lq-free-map-spec : {M : Type 1} → statement M
-lq-free-map-spec = tie.close (tie.spec (λ c κs. search rules) (λ c. search rules) (λ c κs. search rules) (λ c. search rules) (λ c. search rules) returns)
+pub lq_free_map_spec : {M : Type 1} → statement M
+lq_free_map_spec = tie.close (tie.spec (λ c κs. search rules) (λ c. search rules) (λ c κs. search rules) (λ c. search rules) (λ c. search rules) returns)

@@ -8,9 +8,9 @@ use Rattle.capi.proofs.lq_judge.Tie as tie
 
 returns : tie.Need-returns
 returns c =
-    let g = c.before.before in
-    let n = g.before.before.before in
-    given-as _ _ g.give.ensures (n.finding-numbers.ensures ∙ ap finding_numbers n.before.judge.ensures)
+    let g = c in
+    let n = c in
+    given-as _ _ g.give.ensures (n.finding_numbers.ensures ∙ ap finding_numbers n.judge-f.ensures)
 
-pub lq-judge-spec : {M : Type 1} → statement M
-lq-judge-spec = tie.close (tie.spec (λ c κs. search rules) (λ c κs. search rules) (λ c. search rules) (λ c κs. search rules) (λ c. search rules) returns)
+pub lq_judge_spec : {M : Type 1} → statement M
+lq_judge_spec = tie.close (tie.spec (λ c κs. search rules) (λ c κs. search rules) (λ c. search rules) (λ c κs. search rules) (λ c. search rules) returns)

@@ -8,10 +8,10 @@ use Rattle.capi.proofs.lq_list_cancelled.Tie as tie
 
 returns : tie.Need-returns
 returns c =
-    let g = c.before.before in
-    let n = g.before.before.before in
-    let e = n.before.before.before.list-cancelled.ensures in
-    (given-as _ _ g.give.ensures (n.list-numbers.ensures ∙ ap list_numbers e.0), e.1)
+    let g = c in
+    let n = c in
+    let e = n.list_cancelled-l.ensures in
+    (given-as _ _ g.give.ensures (n.list_numbers.ensures ∙ ap list_numbers e.0), e.1)
 
-pub lq-list-cancelled-spec : {M : Type 1} → statement M
-lq-list-cancelled-spec = tie.close (tie.spec (λ c κs. search rules) (λ c κs. search rules) (λ c. search rules) (λ c κs. search rules) (λ c. search rules) (λ c. search rules) returns)
+pub lq_list_cancelled_spec : {M : Type 1} → statement M
+lq_list_cancelled_spec = tie.close (tie.spec (λ c κs. search rules) (λ c κs. search rules) (λ c. search rules) (λ c κs. search rules) (λ c. search rules) (λ c. search rules) returns)

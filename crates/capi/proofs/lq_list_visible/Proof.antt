@@ -8,10 +8,10 @@ use Rattle.capi.proofs.lq_list_visible.Tie as tie
 
 returns : tie.Need-returns
 returns c =
-    let g = c.before.before in
-    let n = g.before.before.before in
-    let e = n.before.before.before.list-visible.ensures in
-    (given-as _ _ g.give.ensures (n.list-numbers.ensures ∙ ap list_numbers e.0), e.1)
+    let g = c in
+    let n = c in
+    let e = n.list_visible-l.ensures in
+    (given-as _ _ g.give.ensures (n.list_numbers.ensures ∙ ap list_numbers e.0), e.1)
 
-pub lq-list-visible-spec : {M : Type 1} → statement M
-lq-list-visible-spec = tie.close (tie.spec (λ c κs. search rules) (λ c κs. search rules) (λ c. search rules) (λ c κs. search rules) (λ c. search rules) (λ c. search rules) returns)
+pub lq_list_visible_spec : {M : Type 1} → statement M
+lq_list_visible_spec = tie.close (tie.spec (λ c κs. search rules) (λ c κs. search rules) (λ c. search rules) (λ c κs. search rules) (λ c. search rules) (λ c. search rules) returns)

@@ -8,9 +8,9 @@ use Rattle.capi.proofs.lq_log_open.Tie as tie
 returns : tie.Need-returns
 unfolding open_numbers
 returns c =
-    let g = c.before.before in
-    let o = g.before.before.before in
-    given-as _ _ g.give.ensures (rw (o.before.header-fault.ensures, o.opened-at.ensures))
+    let g = c in
+    let o = c in
+    given-as _ _ g.give.ensures (rw (o.header_fault-number.ensures, o.opened_at-place.ensures))
 
-pub lq-log-open-spec : {M : Type 1} → statement M
-lq-log-open-spec = tie.close (tie.spec (λ c κs. search rules) (λ c κs. search rules) (λ c. search rules) (λ c κs. search rules) (λ c. search rules) returns)
+pub lq_log_open_spec : {M : Type 1} → statement M
+lq_log_open_spec = tie.close (tie.spec (λ c κs. search rules) (λ c κs. search rules) (λ c. search rules) (λ c κs. search rules) (λ c. search rules) returns)

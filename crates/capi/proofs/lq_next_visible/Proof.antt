@@ -9,9 +9,9 @@ use Rattle.capi.proofs.lq_next_visible.Tie as tie
 returns : tie.Need-returns
 unfolding next_visible_numbers
 returns c =
-    let g = c.before.before in
-    let n = g.before.before.before in
-    given-as _ _ g.give.ensures (n.row-numbers.ensures ∙ ap row_numbers n.before.next-visible.ensures)
+    let g = c in
+    let n = c in
+    given-as _ _ g.give.ensures (n.row_numbers.ensures ∙ ap row_numbers n.next_visible-next.ensures)
 
-pub lq-next-visible-spec : {M : Type 1} → statement M
-lq-next-visible-spec = tie.close (tie.spec (λ c κs. search rules) (λ c κs. search rules) (λ c. search rules) (λ c κs. search rules) (λ c. search rules) returns)
+pub lq_next_visible_spec : {M : Type 1} → statement M
+lq_next_visible_spec = tie.close (tie.spec (λ c κs. search rules) (λ c κs. search rules) (λ c. search rules) (λ c κs. search rules) (λ c. search rules) returns)

@@ -9,9 +9,9 @@ use Rattle.capi.proofs.lq_read_row.Tie as tie
 returns : tie.Need-returns
 unfolding read_row_numbers
 returns c =
-    let g = c.before.before in
-    let n = g.before.before.before in
-    given-as _ _ g.give.ensures (n.located-numbers.ensures ∙ ap located_numbers n.before.locate-row.ensures)
+    let g = c in
+    let n = c in
+    given-as _ _ g.give.ensures (n.located_numbers.ensures ∙ ap located_numbers n.locate_row-l.ensures)
 
-pub lq-read-row-spec : {M : Type 1} → statement M
-lq-read-row-spec = tie.close (tie.spec (λ c κs. search rules) (λ c κs. search rules) (λ c. search rules) (λ c κs. search rules) (λ c. search rules) returns)
+pub lq_read_row_spec : {M : Type 1} → statement M
+lq_read_row_spec = tie.close (tie.spec (λ c κs. search rules) (λ c κs. search rules) (λ c. search rules) (λ c κs. search rules) (λ c. search rules) returns)

@@ -8,10 +8,10 @@ use Rattle.capi.proofs.lq_recover.Tie as tie
 
 returns : tie.Need-returns
 returns c =
-    let g = c.before.before in
-    let n = g.before.before.before in
-    let e = n.before.before.before.before.before.recover-flat.ensures in
-    (given-as _ _ g.give.ensures (n.answer-numbers.ensures ∙ ap answer_numbers e.0), e.1)
+    let g = c in
+    let n = c in
+    let e = n.recover_flat-a.ensures in
+    (given-as _ _ g.give.ensures (n.answer_numbers.ensures ∙ ap answer_numbers e.0), e.1)
 
-pub lq-recover-spec : {M : Type 1} → statement M
-lq-recover-spec = tie.close (tie.spec (λ c κs. search rules) (λ c κs. search rules) (λ c. search rules) (λ c κs. search rules) (λ c. search rules) (λ c. search rules) (λ c. search rules) returns)
+pub lq_recover_spec : {M : Type 1} → statement M
+lq_recover_spec = tie.close (tie.spec (λ c κs. search rules) (λ c κs. search rules) (λ c. search rules) (λ c κs. search rules) (λ c. search rules) (λ c. search rules) (λ c. search rules) returns)

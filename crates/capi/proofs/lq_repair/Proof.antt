@@ -8,9 +8,9 @@ use Rattle.capi.proofs.lq_repair.Tie as tie
 
 returns : tie.Need-returns
 returns c =
-    let g = c.before.before in
-    let e = g.before.before.before.before.before.repair.ensures in
+    let g = c in
+    let e = g.repair-restored.ensures in
     (given-as _ _ g.give.ensures (ap restored_numbers e.0), e.1)
 
-pub lq-repair-spec : {M : Type 1} → statement M
-lq-repair-spec = tie.close (tie.spec (λ c κs. search rules) (λ c. search rules) (λ c κs. search rules) (λ c. search rules) (λ c. search rules) returns)
+pub lq_repair_spec : {M : Type 1} → statement M
+lq_repair_spec = tie.close (tie.spec (λ c κs. search rules) (λ c. search rules) (λ c κs. search rules) (λ c. search rules) (λ c. search rules) returns)

@@ -8,9 +8,9 @@ use Rattle.capi.proofs.lq_repeated_orders.Tie as tie
 
 returns : tie.Need-returns
 returns c =
-    let g = c.before.before in
-    let n = g.before.before.before in
-    given-as _ _ g.give.ensures (n.repeated-numbers.ensures ∙ ap repeated_numbers n.before.repeated.ensures)
+    let g = c in
+    let n = c in
+    given-as _ _ g.give.ensures (n.repeated_numbers.ensures ∙ ap repeated_numbers n.repeated-f.ensures)
 
-pub lq-repeated-orders-spec : {M : Type 1} → statement M
-lq-repeated-orders-spec = tie.close (tie.spec (λ c κs. search rules) (λ c κs. search rules) (λ c. search rules) (λ c κs. search rules) (λ c. search rules) returns)
+pub lq_repeated_orders_spec : {M : Type 1} → statement M
+lq_repeated_orders_spec = tie.close (tie.spec (λ c κs. search rules) (λ c κs. search rules) (λ c. search rules) (λ c κs. search rules) (λ c. search rules) returns)

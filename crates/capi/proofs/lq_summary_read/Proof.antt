@@ -8,9 +8,9 @@ use Rattle.capi.proofs.lq_summary_read.Tie as tie
 
 returns : tie.Need-returns
 returns c =
-    let g = c.before.before in
-    let n = g.before.before.before in
-    given-as _ _ g.give.ensures (n.summary-numbers.ensures ∙ ap summary_numbers n.before.read.ensures)
+    let g = c in
+    let n = c in
+    given-as _ _ g.give.ensures (n.summary_numbers.ensures ∙ ap summary_numbers n.read-s.ensures)
 
-pub lq-summary-read-spec : {M : Type 1} → statement M
-lq-summary-read-spec = tie.close (tie.spec (λ c κs. search rules) (λ c κs. search rules) (λ c. search rules) (λ c κs. search rules) (λ c. search rules) returns)
+pub lq_summary_read_spec : {M : Type 1} → statement M
+lq_summary_read_spec = tie.close (tie.spec (λ c κs. search rules) (λ c κs. search rules) (λ c. search rules) (λ c κs. search rules) (λ c. search rules) returns)

@@ -8,9 +8,9 @@ use Rattle.capi.proofs.lq_summary_row.Tie as tie
 
 returns : tie.Need-returns
 returns c =
-    let g = c.before.before in
-    let n = g.before.before.before in
-    given-as _ _ g.give.ensures (n.numbered-numbers.ensures ∙ ap numbered_numbers n.before.row.ensures)
+    let g = c in
+    let n = c in
+    given-as _ _ g.give.ensures (n.numbered_numbers.ensures ∙ ap numbered_numbers n.row-n.ensures)
 
-pub lq-summary-row-spec : {M : Type 1} → statement M
-lq-summary-row-spec = tie.close (tie.spec (λ c κs. search rules) (λ c κs. search rules) (λ c. search rules) (λ c κs. search rules) (λ c. search rules) returns)
+pub lq_summary_row_spec : {M : Type 1} → statement M
+lq_summary_row_spec = tie.close (tie.spec (λ c κs. search rules) (λ c κs. search rules) (λ c. search rules) (λ c κs. search rules) (λ c. search rules) returns)

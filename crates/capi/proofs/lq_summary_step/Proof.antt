@@ -8,9 +8,9 @@ use Rattle.capi.proofs.lq_summary_step.Tie as tie
 
 returns : tie.Need-returns
 returns c =
-    let g = c.before.before in
-    let n = g.before.before.before in
-    given-as _ _ g.give.ensures (n.step-numbers.ensures ∙ ap summary_step_numbers n.before.step.ensures)
+    let g = c in
+    let n = c in
+    given-as _ _ g.give.ensures (n.step_numbers.ensures ∙ ap summary_step_numbers n.step-s.ensures)
 
-pub lq-summary-step-spec : {M : Type 1} → statement M
-lq-summary-step-spec = tie.close (tie.spec (λ c κs. search rules) (λ c κs. search rules) (λ c. search rules) (λ c κs. search rules) (λ c. search rules) returns)
+pub lq_summary_step_spec : {M : Type 1} → statement M
+lq_summary_step_spec = tie.close (tie.spec (λ c κs. search rules) (λ c κs. search rules) (λ c. search rules) (λ c κs. search rules) (λ c. search rules) returns)

@@ -8,9 +8,9 @@ use Rattle.capi.proofs.lq_summary_write.Tie as tie
 
 returns : tie.Need-returns
 returns c =
-    let g = c.before.before in
-    let e = g.before.before.before.before.before.before.write.ensures in
+    let g = c in
+    let e = g.write-w.ensures in
     (given-as _ _ g.give.ensures (ap written_numbers e.0), e.1)
 
-pub lq-summary-write-spec : {M : Type 1} → statement M
-lq-summary-write-spec = tie.close (tie.spec (λ c κs. search rules) (λ c. search rules) (λ c κs. search rules) (λ c. search rules) (λ c. search rules) returns)
+pub lq_summary_write_spec : {M : Type 1} → statement M
+lq_summary_write_spec = tie.close (tie.spec (λ c κs. search rules) (λ c. search rules) (λ c κs. search rules) (λ c. search rules) (λ c. search rules) returns)

@@ -8,9 +8,9 @@ use Rattle.capi.proofs.lq_table_find.Tie as tie
 
 returns : tie.Need-returns
 returns c =
-    let g = c.before.before in
-    let n = g.before.before.before in
-    given-as _ _ g.give.ensures (n.row-numbers.ensures ∙ ap row_numbers n.before.find-table.ensures)
+    let g = c in
+    let n = c in
+    given-as _ _ g.give.ensures (n.row_numbers.ensures ∙ ap row_numbers n.find_table-found.ensures)
 
-pub lq-table-find-spec : {M : Type 1} → statement M
-lq-table-find-spec = tie.close (tie.spec (λ c κs. search rules) (λ c κs. search rules) (λ c. search rules) (λ c κs. search rules) (λ c. search rules) returns)
+pub lq_table_find_spec : {M : Type 1} → statement M
+lq_table_find_spec = tie.close (tie.spec (λ c κs. search rules) (λ c κs. search rules) (λ c. search rules) (λ c κs. search rules) (λ c. search rules) returns)

@@ -8,9 +8,9 @@ use Rattle.capi.proofs.lq_table_read_older.Tie as tie
 
 returns : tie.Need-returns
 returns c =
-    let g = c.before.before in
-    let n = g.before.before.before in
-    given-as _ _ g.give.ensures (n.table-numbers.ensures ∙ ap table_numbers n.before.read-older.ensures)
+    let g = c in
+    let n = c in
+    given-as _ _ g.give.ensures (n.table_numbers.ensures ∙ ap table_numbers n.read_older-t.ensures)
 
-pub lq-table-read-older-spec : {M : Type 1} → statement M
-lq-table-read-older-spec = tie.close (tie.spec (λ c κs. search rules) (λ c κs. search rules) (λ c. search rules) (λ c κs. search rules) (λ c. search rules) returns)
+pub lq_table_read_older_spec : {M : Type 1} → statement M
+lq_table_read_older_spec = tie.close (tie.spec (λ c κs. search rules) (λ c κs. search rules) (λ c. search rules) (λ c κs. search rules) (λ c. search rules) returns)

@@ -9,8 +9,8 @@ use Rattle.capi.proofs.lq_verify.Tie as tie
 returns : tie.Need-returns
 unfolding verify_numbers
 returns c =
-    let g = c.before.before in
-    given-as _ _ g.give.ensures (ap verdict_numbers g.before.before.before.verify.ensures)
+    let g = c in
+    given-as _ _ g.give.ensures (ap verdict_numbers g.verify-v.ensures)
 
-pub lq-verify-spec : {M : Type 1} → statement M
-lq-verify-spec = tie.close (tie.spec (λ c κs. search rules) (λ c. search rules) (λ c κs. search rules) (λ c. search rules) returns)
+pub lq_verify_spec : {M : Type 1} → statement M
+lq_verify_spec = tie.close (tie.spec (λ c κs. search rules) (λ c. search rules) (λ c κs. search rules) (λ c. search rules) returns)
