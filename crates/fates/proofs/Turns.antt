@@ -14,9 +14,7 @@ use Rattle.wal.specs.declared.EntryView.{EntryView}
 use Rattle.wal.specs.Walk.{entries, end_of}
 use Rattle.wal.specs.Prefix.{entry_in, said, Stands, Met, before, onward}
 use Rattle.wal.proofs.Prefix.{Below, Along, start, more, along, before-first, before-next, met-split, met-below, met-end, met-le, met_next, onward-next}
-use Rattle.rules.specs.Shape.{both, is_shaped, is_bare}
 use Rattle.rules.specs.Order.{is_begin, begun, is_open, in_order, never_full}
-use Rattle.rules.proofs.Tests.{both_true}
 use Rattle.rules.proofs.OrderLaws.{Passes, InTurn, in-turn}
 use Rattle.states.specs.State.{state_of}
 use Rattle.states.proofs.States.{Told, told_none, told-snoc, open_is, ordered-is, checkpoint-zero}

@@ -9,12 +9,11 @@ use native.Mathlib.Decide.{dec_lt}
 use lib.ListN.{length, take}
 use lib.Dec.{eqb}
 use borrow.Author.Tests.{eq-eqb, ne_eqb}
-use Rattle.endian.specs.Pick.{pick, cons_if}
+use Rattle.endian.specs.Pick.{cons_if}
 use Rattle.endian.specs.declared.TxnNumber.{TxnNumber}
 use Rattle.wal.specs.Entry.{Entry, begin, commit, rollback}
 use Rattle.wal.specs.Read.{length_at}
 use Rattle.wal.specs.Prefix.{Met, Stands, said, before}
-use Rattle.wal.proofs.WalkLaws.{EntryAt}
 use Rattle.wal.proofs.Prefix.{Along, start, more, along, stands_at, met-from, met-below}
 use Rattle.rules.specs.Shape.{either}
 use Rattle.rules.specs.Order.{is_begin}
@@ -28,7 +27,6 @@ use Rattle.firsts.specs.First.{places_of, is_end}
 use Rattle.firsts.proofs.Log.{Here, places-first, places-next}
 use Rattle.order.specs.Blocks.{top_number, Gathered, Blocked}
 use Rattle.order.specs.declared.Holding.{Holding}
-use Rattle.order.specs.declared.Block.{Block}
 
 -- ---- the places before a place of the walk
 

@@ -1,26 +1,25 @@
 -- The verdict of all rules but that on clashes: 5, 6, 7 and 10 by one walk, then 8 as far as it is of interest; and with 9 searched for up to there, that of all rules.
 -- Assumes nothing.
-use Prim.Native.Nat.{ℕ, zero, suc, ◌+◌, ◌≤◌, ◌<◌}
+use Prim.Native.Nat.{ℕ, suc, ◌≤◌, ◌<◌}
 use mathlib.Core.Path.{◌≡◌, refl, sym, ap, ap₂, ◌∙◌, subst}
 use mathlib.Core.Bool.{Bool, true, false}
-use mathlib.Core.List.{List, [], ◌∷◌, ◌++◌}
+use mathlib.Core.List.{List, []}
 use native.Mathlib.Omega.{arith}
 use native.Mathlib.Decide.{dec_lt}
-use lib.Dec.{ltb, eqb}
-use borrow.Author.Tests.{lt-ltb, le-ltb, eq-eqb, ne_eqb}
+use lib.Dec.{ltb}
+use borrow.Author.Tests.{ne_eqb}
 use Rattle.endian.specs.Pick.{pick}
 use Rattle.endian.specs.declared.Lsn.{Lsn}
 use Rattle.refusals.specs.Verdict.{verdict, accepted, ◌then◌}
 use Rattle.refusals.specs.declared.Verdict.{Verdict}
-use Rattle.wal.specs.Entry.{Entry, sizes_of}
-use Rattle.wal.specs.Read.{length_at}
+use Rattle.wal.specs.Entry.{Entry}
 use Rattle.wal.specs.Walk.{entries, end_of, ending_of}
-use Rattle.wal.specs.Prefix.{Met, Stands, before}
+use Rattle.wal.specs.Prefix.{Met, before}
 use Rattle.wal.specs.declared.Reading.{Reading}
 use Rattle.wal.specs.declared.Reading.TheVariants.{Whole, End, Torn, Unused, Damage}
 use Rattle.wal.proofs.Prefix.{met-below, stands_at, before-end}
 use Rattle.rules.specs.Shape.{both, is_known, is_shaped}
-use Rattle.rules.specs.Order.{count, is_begin, last_lsn, in_order, or_else, end_verdict}
+use Rattle.rules.specs.Order.{count, is_begin, last_lsn, in_order, end_verdict}
 use Rattle.rules.proofs.Tests.{false-true, into, past}
 use Rattle.firsts.specs.First.{FirstOf}
 use Rattle.firsts.specs.Judge.{verdict_from, Judged, stop_for, narrowed, Breaks, unknown, unshaped, unrisen, unordered, clashing, unrecorded, Only, own, but_order, but_clash}
@@ -28,9 +27,8 @@ use Rattle.firsts.proofs.Judging.{Least, judged-from, judged-one, stop-accepted,
 use Rattle.firsts.proofs.OrderVerdict.{plain-judged, order-next}
 use Rattle.firsts.proofs.Log.{end_is, log-some}
 use Rattle.order.specs.First.{told, end_number, basic_fault, basic_verdict, FirstWalk}
-use Rattle.order.specs.Scanning.{plain_verdict, Sees, Halts, whole, early, late, Scanned, Joined, wrong, others}
+use Rattle.order.specs.Scanning.{plain_verdict, Halts, whole, early, late, Scanned, Joined, wrong, others}
 use Rattle.order.specs.Blocks.{FirstWrong, every_number}
-use Rattle.order.specs.declared.Seen.{Seen}
 use Rattle.order.specs.declared.Scan.{Scan}
 use Rattle.order.specs.declared.Walked.{Walked}
 use Rattle.order.proofs.Wrongs.{wrong-order}

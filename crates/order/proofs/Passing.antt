@@ -9,7 +9,7 @@ use native.Mathlib.Decide.{dec_lt, ℕ_discrete}
 use lib.Dec.{ltb, eqb}
 use borrow.Author.Tests.{lt-ltb, le-ltb, eq-eqb, ne_eqb, eqb-true, ltb-true}
 use Rattle.endian.specs.Pick.{pick}
-use Rattle.refusals.specs.Verdict.{verdict, accepted, ◌then◌}
+use Rattle.refusals.specs.Verdict.{verdict, ◌then◌}
 use Rattle.refusals.specs.declared.Verdict.{Verdict}
 use Rattle.refusals.proofs.Then.{then-refused, then-accepted}
 use Rattle.wal.specs.Entry.{Entry, sizes_of, begin}
@@ -25,11 +25,11 @@ use Rattle.change.specs.Places.{AllShaped, LsnsRise}
 use Rattle.firsts.specs.First.{FirstOf}
 use Rattle.firsts.specs.Judge.{verdict_from, Judged, stop_for, narrowed, Breaks, unknown, unshaped, unrisen, unordered, clashing, unrecorded, Only, own, but_clash}
 use Rattle.firsts.proofs.FirstLaws.{sizes-append}
-use Rattle.firsts.proofs.Judging.{Least, stop-accepted, stop-at, stop-with, narrowed-found, narrowed_none, same_place}
+use Rattle.firsts.proofs.Judging.{stop-accepted, stop-at, stop-with, narrowed-found, narrowed_none, same_place}
 use Rattle.firsts.proofs.OrderVerdict.{clash-next}
 use Rattle.firsts.proofs.Outcomes.{InOrder}
 use Rattle.firsts.proofs.Log.{place_is, end_is, split_at}
-use Rattle.order.specs.First.{told, end_number, basic_fault, basic_verdict, FirstWalk}
+use Rattle.order.specs.First.{told, basic_fault, basic_verdict, FirstWalk}
 use Rattle.order.specs.declared.Walked.{Walked}
 use Rattle.order.proofs.Joining.{least-basic, basic-judged}
 

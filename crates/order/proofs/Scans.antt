@@ -5,14 +5,14 @@ use mathlib.Core.Path.{◌≡◌, refl, sym, ap, ap₂, ◌∙◌, subst}
 use mathlib.Core.Bool.{Bool, true, false}
 use mathlib.Core.List.{List, [], ◌∷◌, ◌++◌}
 use native.Mathlib.Omega.{arith}
-use lib.Dec.{ltb, leb, eqb}
+use lib.Dec.{ltb, eqb}
 use borrow.Author.Tests.{lt-ltb, le-ltb}
 use denote.Enum.Declared.{tag_of}
 use types.Run.{OneOf}
 use Rattle.endian.specs.Pick.{pick}
-use Rattle.wal.specs.Entry.{Entry, entry_of, size_of, begin}
+use Rattle.wal.specs.Entry.{Entry, entry_of, begin}
 use Rattle.wal.specs.Read.{length_at, read_at, view}
-use Rattle.wal.specs.Walk.{views_from, entries, end_of, ending_of}
+use Rattle.wal.specs.Walk.{views_from, end_of}
 use Rattle.wal.specs.Prefix.{entry_in, said, Met, Stands, before, onward}
 use Rattle.wal.specs.declared.EntryView.{EntryView}
 use Rattle.wal.specs.declared.Reading.{Reading}
@@ -21,15 +21,13 @@ use Rattle.wal.specs.contracts.Reading.{the_type}
 use Rattle.wal.proofs.WalkLaws.{EntryAt, entry_at, stops}
 use Rattle.wal.proofs.Places.{size-of}
 use Rattle.wal.proofs.Prefix.{entry_in_lem, stands, stands_at, met-first, met_next, before-first, before-next, onward-first, onward-next, met-last}
-use Rattle.refusals.specs.Verdict.{verdict, accepted}
-use Rattle.refusals.specs.declared.Verdict.{Verdict}
 use Rattle.rules.specs.Shape.{both, is_known, is_shaped}
 use Rattle.rules.specs.Order.{one, count, is_begin, last_lsn, or_else}
 use Rattle.rules.proofs.OrderLaws.{last_snoc}
 use Rattle.rules.proofs.Counts.{count-snoc}
 use Rattle.firsts.specs.Judge.{verdict_from, plain_fault}
 use Rattle.order.specs.First.{end_number}
-use Rattle.order.specs.Scanning.{early_fault, plain_verdict, Sees, Scanning, Halts, whole, early, late, Scanned}
+use Rattle.order.specs.Scanning.{early_fault, plain_verdict, Scanning, whole, early, late, Scanned}
 use Rattle.order.specs.declared.Seen.{Seen}
 
 -- ---- 5, 6 and 7 of an entry

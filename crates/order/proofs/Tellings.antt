@@ -2,11 +2,11 @@
 -- Assumes nothing.
 use Prim.Native.Nat.{ℕ, ◌+◌, ◌≤◌, ◌<◌}
 use mathlib.Core.Path.{◌≡◌, refl, sym, ap, ◌∙◌}
-use mathlib.Core.Bool.{Bool, true, false, not}
-use mathlib.Core.List.{List, []}
+use mathlib.Core.Bool.{Bool, true, false}
+use mathlib.Core.List.{List}
 use native.Mathlib.Omega.{arith}
-use lib.ListN.{length, take}
-use lib.Dec.{ltb, eqb}
+use lib.ListN.{take}
+use lib.Dec.{eqb}
 use borrow.Author.Tests.{eq-eqb, eqb-true}
 use Rattle.endian.specs.Pick.{pick}
 use Rattle.wal.specs.Entry.{Entry, entry_of, sizes_of, begin, commit, rollback}
@@ -17,7 +17,7 @@ use Rattle.wal.proofs.Prefix.{met-from}
 use Rattle.rules.specs.Shape.{both, either}
 use Rattle.rules.specs.Order.{any, is, is_begin, begun, ended}
 use Rattle.rules.proofs.Tests.{both_true, true-both}
-use Rattle.index.specs.Places.{number, Has}
+use Rattle.index.specs.Places.{number}
 use Rattle.index.specs.Index.{lookup, First}
 use Rattle.index.specs.Collect.{Indexed}
 use Rattle.index.proofs.Collecting.{indexed-first}

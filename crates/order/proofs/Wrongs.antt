@@ -3,25 +3,25 @@
 use Prim.Native.Nat.{ℕ, ◌+◌, ◌≤◌, ◌<◌}
 use mathlib.Core.Path.{◌≡◌, refl, sym, ap, ◌∙◌, subst}
 use mathlib.Core.Bool.{Bool, true, false, not}
-use mathlib.Core.List.{List, []}
+use mathlib.Core.List.{List}
 use native.Mathlib.Omega.{arith}
 use native.Mathlib.Decide.{dec_lt}
 use lib.Dec.{ltb, leb, eqb}
 use borrow.Author.Tests.{lt-ltb, le-ltb, le-leb, lt-leb, eq-eqb, ne_eqb, ltb-true}
 use Rattle.endian.specs.Pick.{pick}
-use Rattle.wal.specs.Entry.{Entry, entry_of, begin, checkpoint}
+use Rattle.wal.specs.Entry.{Entry, begin, checkpoint}
 use Rattle.wal.specs.Read.{length_at}
 use Rattle.wal.specs.Walk.{entries}
 use Rattle.wal.specs.Prefix.{Met, Stands, said, before}
 use Rattle.wal.proofs.Prefix.{met-first, met_next, met-from, met-below}
-use Rattle.rules.specs.Shape.{both, either, is_change, is_changing}
+use Rattle.rules.specs.Shape.{both, either, is_change}
 use Rattle.rules.specs.Order.{is_begin, begun, ended, is_open, in_order}
 use Rattle.rules.proofs.Tests.{false-true}
 use Rattle.firsts.specs.First.{FirstOf}
 use Rattle.firsts.specs.Tests.{Fails}
 use Rattle.firsts.proofs.FirstLaws.{first-never}
 use Rattle.firsts.proofs.Orders.{block-join}
-use Rattle.firsts.proofs.Log.{Here, first-log}
+use Rattle.firsts.proofs.Log.{first-log}
 use Rattle.order.specs.Blocks.{top_number, in_block, right_in, RightBefore, FirstWrong, below, every_number}
 
 -- ---- an entry by itself

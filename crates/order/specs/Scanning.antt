@@ -1,5 +1,5 @@
 -- Internal: the walk with checksums and rules 5, 6, 7 and 10, on its way and where it stops.
-use Rattle.std.specs.Prelude.{ℕ, ◌+◌, ◌≤◌, ◌<◌, ◌≡◌, List, [], Bool, ltb, eqb}
+use Rattle.std.specs.Prelude.{ℕ, ◌+◌, ◌≤◌, ◌<◌, ◌≡◌, List, [], Bool, ltb}
 use Rattle.refusals.specs.Refusal.{entry_type, entry_shape, lsn_order, transaction_order, no_record}
 use Rattle.refusals.specs.Verdict.{verdict, accepted}
 use Rattle.refusals.specs.declared.Verdict.{Verdict}

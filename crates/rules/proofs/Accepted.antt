@@ -1,12 +1,12 @@
 -- M2: a page that a shorter log mended is accepted with the longer log where it was before.
 -- Assumes nothing.
 use mathlib.Core.Path.{◌≡◌, refl, ap, ◌∙◌, subst₂}
-use mathlib.Core.Logic.{◌⊎◌, inl, inr}
-use Prim.Native.Nat.{ℕ, zero, suc, ◌+◌, ◌*◌, ◌^◌, ◌≤◌, ◌<◌, max}
+use mathlib.Core.Logic.{inl, inr}
+use Prim.Native.Nat.{ℕ, zero, suc, ◌^◌, ◌≤◌, ◌<◌, max}
 use native.Mathlib.Omega.{arith}
 use native.Mathlib.Decide.{dec_le}
 use mathlib.Core.Bool.{Bool, true, false}
-use mathlib.Core.List.{List, [], ◌∷◌, ◌++◌}
+use mathlib.Core.List.{List, [], ◌++◌}
 use lib.ListN.{length, drop, get_or, length-take, length-drop, get_or-eq_default}
 use lib.Seq.{length-take-le}
 use lib.Dec.{ltb}
@@ -14,7 +14,7 @@ use Rattle.endian.specs.Pick.{pick}
 use Rattle.endian.specs.Numbers.{Bytes, part}
 use Rattle.endian.proofs.Bytes.{number-range, bytes_take, bytes_drop, bytes-nil}
 use Rattle.wal.specs.Entry.{Entry}
-use Rattle.page.specs.Layout.{page_bytes, body_bytes, count_of, type_of, lsn_of, free_end_of, body_of, slot_off, slot_len, slot_at}
+use Rattle.page.specs.Layout.{page_bytes, count_of, type_of, lsn_of, free_end_of, body_of, slot_off, slot_len, slot_at}
 use Rattle.page.specs.Packed.{Head, packed, room_for}
 use Rattle.page.specs.Good.{Good, DataGood, SlotGood, TupleGood}
 use Rattle.page.proofs.Fields.{type-back, lsn-back}

@@ -4,7 +4,7 @@
 use mathlib.Core.Path.{◌≡◌, refl, sym, ap, ◌∙◌, subst}
 use mathlib.Core.Logic.{◌⊎◌, inl, inr, ⊎_elim}
 use mathlib.Core.Bool.{Bool, true, false}
-use Prim.Native.Nat.{ℕ, ◌+◌, ◌*◌, ◌/◌, ◌^◌, ◌≤◌, ◌<◌}
+use Prim.Native.Nat.{ℕ, ◌*◌, ◌/◌, ◌^◌, ◌≤◌, ◌<◌}
 use native.Mathlib.Omega.{arith}
 use native.Mathlib.Nat.{zero-add}
 use mathlib.Core.List.{List, [], ◌++◌, append-nil}
@@ -18,7 +18,7 @@ use Rattle.wal.specs.Read.{header_fault, read_at, first}
 use Rattle.wal.specs.Walk.{entries, end_of, ending_of, ending_number}
 use Rattle.page.specs.Layout.{page_bytes, pages_in, page_at, slot_at}
 use Rattle.page.specs.Good.{TupleGood}
-use Rattle.refusals.specs.Verdict.{verdict, ◌then◌}
+use Rattle.refusals.specs.Verdict.{verdict}
 use Rattle.page.specs.Fault.{size_wrong}
 use Rattle.refusals.specs.declared.Verdict.{Verdict}
 use Rattle.page.proofs.FaultLaws.{sound-good, good-sound}

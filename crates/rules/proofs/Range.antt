@@ -1,13 +1,13 @@
 -- The numbers and bytes of the entries of a log of bytes are in range.
 -- Assumes nothing.
-use mathlib.Core.Path.{◌≡◌, sym, ap, subst}
-use Prim.Native.Nat.{ℕ, ◌+◌, ◌^◌, ◌<◌}
-use mathlib.Core.List.{List, [], ◌∷◌, map}
+use mathlib.Core.Path.{ap}
+use Prim.Native.Nat.{ℕ, ◌+◌}
+use mathlib.Core.List.{List, map}
 use Rattle.endian.specs.Numbers.{Bytes}
 use Rattle.endian.proofs.Bytes.{number-range, bytes_take, bytes_drop}
 use Rattle.wal.specs.Entry.{entry_of}
 use Rattle.wal.specs.Read.{first, view}
-use Rattle.wal.specs.Walk.{entries, views_from}
+use Rattle.wal.specs.Walk.{entries}
 use Rattle.wal.specs.declared.EntryView.{EntryView}
 use Rattle.wal.proofs.WalkLaws.{EntryAt, entry_at, Walk, done, step, walk}
 use Rattle.rules.proofs.OrderLaws.{Every}

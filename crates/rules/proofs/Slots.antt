@@ -1,7 +1,7 @@
 -- One slot: what a longer log decides does not depend on what a part of it decided before.
 -- Assumes nothing.
-use mathlib.Core.Path.{◌≡◌, refl, sym, ap, ◌∙◌}
-use Prim.Native.Nat.{ℕ, zero, suc, ◌+◌, ◌≤◌, ◌<◌, max}
+use mathlib.Core.Path.{◌≡◌, refl, sym}
+use Prim.Native.Nat.{ℕ, zero, suc, ◌≤◌, max}
 use native.Mathlib.Omega.{arith}
 use mathlib.Core.Bool.{Bool, true, false}
 use mathlib.Core.List.{List, [], ◌∷◌, ◌++◌, append_assoc}
@@ -9,7 +9,7 @@ use lib.Dec.{eqb}
 use borrow.Author.Tests.{eqb-true}
 use Rattle.endian.specs.Pick.{pick}
 use Rattle.wal.specs.Entry.{Entry}
-use Rattle.rules.specs.Shape.{Change, both, is_on, slot_of, before_of, after_of, effect_on, top_on, lsn_on}
+use Rattle.rules.specs.Shape.{Change, both, is_on, slot_of, before_of, after_of, effect_on, top_on}
 use Rattle.rules.specs.Mend.{winner, last_after, changes, top_of, last_on, decided}
 
 -- an entry changes no slot at or past its top

@@ -1,13 +1,12 @@
 -- When a transaction began, last changed something and ended: LSNs of the entries of a list that pass a test, one entry more, and their order (paper 02, W8).
 -- Assumes nothing.
-use mathlib.Core.Path.{◌≡◌, refl, sym, ap, ◌∙◌}
+use mathlib.Core.Path.{◌≡◌, refl, ap, ◌∙◌}
 use mathlib.Core.Bool.{Bool, true, false}
 use Prim.Native.Nat.{ℕ, ◌+◌}
 use native.Mathlib.Omega.{arith}
 use mathlib.Core.List.{List, [], ◌∷◌, ◌++◌, append-nil}
 use Rattle.endian.specs.Pick.{pick, cons_if}
 use Rattle.wal.specs.Entry.{Entry, commit, rollback}
-use Rattle.rules.specs.Shape.{either}
 use Rattle.rules.specs.Order.{one, count, any, is, last_lsn}
 use Rattle.rules.specs.Recover.{is_end_of, those}
 use Rattle.rules.proofs.Tests.{either-false}

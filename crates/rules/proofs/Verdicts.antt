@@ -1,24 +1,21 @@
 -- Recovery accepts exactly if the log is accepted, every touched page is lent, and each page is accepted.
 -- Assumes nothing.
-use mathlib.Core.Path.{◌≡◌, refl, ap, ◌∙◌}
+use mathlib.Core.Path.{◌≡◌, refl}
 use mathlib.Core.Bool.{Bool, true, false, not}
-use Prim.Native.Nat.{ℕ, zero, suc, ◌+◌, ◌*◌, ◌≤◌, ◌<◌, max}
+use Prim.Native.Nat.{ℕ, zero, suc, ◌+◌, ◌≤◌, ◌<◌, max}
 use native.Mathlib.Omega.{arith}
-use native.Mathlib.Nat.{add-zero, zero-add}
 use native.Mathlib.Decide.{dec_le}
-use mathlib.Core.List.{List, [], ◌∷◌, ◌++◌}
-use lib.ListN.{length}
-use lib.Dec.{ltb, leb, eqb}
-use borrow.Author.Tests.{not-false, ltb-true, ltb-false, leb-true, leb-false, eqb-true, eqb-false, lt-ltb, le-ltb, le-leb, lt-leb, eq-eqb, ne_eqb}
+use mathlib.Core.List.{List, [], ◌∷◌}
+use lib.Dec.{leb, eqb}
+use borrow.Author.Tests.{not-false, ltb-false, leb-false, eqb-true, lt-ltb, le-ltb, lt-leb, eq-eqb}
 use Rattle.endian.specs.Pick.{pick}
 use Rattle.wal.specs.Entry.{Entry, size_of}
 use Rattle.wal.specs.Read.{header_fault, first}
 use Rattle.wal.specs.Walk.{entries, end_of, ending_of}
 use Rattle.wal.specs.declared.Reading.TheVariants.{Damage}
-use Rattle.page.specs.Layout.{page_bytes, body_bytes, data_type, pages_in, page_at, type_of, lsn_of}
+use Rattle.page.specs.Layout.{body_bytes, data_type, pages_in, page_at, type_of, lsn_of}
 use Rattle.page.specs.Packed.{room_for}
-use Rattle.page.specs.Good.{Good}
-use Rattle.refusals.specs.Verdict.{verdict, accepted, ◌then◌}
+use Rattle.refusals.specs.Verdict.{verdict, accepted}
 use Rattle.page.specs.Fault.{fault_of, late_at, page_verdict, first_bad, size_wrong}
 use Rattle.refusals.specs.declared.Verdict.{Verdict}
 use Rattle.page.specs.declared.Fault.TheVariants.{Sound}
@@ -26,9 +23,9 @@ use Rattle.page.proofs.Verdicts.{page-fine, fine-page}
 use Rattle.refusals.proofs.Then.{then-zero, zero-then}
 use Rattle.rules.specs.Shape.{both, either, is_change, page_of, slot_of, is_on, top_on}
 use Rattle.rules.specs.Order.{last_lsn, order_from, end_verdict, log_verdict}
-use Rattle.rules.specs.Mend.{committed, top_of, slots_for, Accepts}
-use Rattle.rules.specs.Recover.{pages_from, is_stray, stray_from, is_touched, is_tight, tight_from, recover_verdict}
-use Rattle.rules.proofs.Tests.{both_true, either-false, false-true}
+use Rattle.rules.specs.Mend.{committed, top_of, slots_for}
+use Rattle.rules.specs.Recover.{pages_from, is_stray, stray_from, is_tight, tight_from, recover_verdict}
+use Rattle.rules.proofs.Tests.{either-false}
 use Rattle.rules.proofs.OrderLaws.{Every}
 use Rattle.rules.specs.Lent.{lent}
 

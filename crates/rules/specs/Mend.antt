@@ -1,5 +1,5 @@
 -- Which image wins, and the mended page (paper 01, Which image wins). E is the accepted list of entries.
-use Rattle.std.specs.Prelude.{ℕ, zero, suc, ◌+◌, ◌*◌, ◌≤◌, ◌<◌, max, ◌≡◌, Bool, true, false, List, [], ◌∷◌, ◌++◌, eqb}
+use Rattle.std.specs.Prelude.{ℕ, zero, suc, ◌≤◌, ◌<◌, max, ◌≡◌, Bool, List, [], ◌∷◌, ◌++◌, eqb}
 use Rattle.endian.specs.Pick.{pick}
 use Rattle.wal.specs.Entry.{Entry, commit}
 use Rattle.page.specs.Layout.{body_bytes, data_type, magic_of, type_of, count_of, id_of, lsn_of, reserved_of, slot_at}

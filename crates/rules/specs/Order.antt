@@ -1,5 +1,5 @@
 -- The order rules: the first fault of an entry after those before it, and the verdict on a log (paper 01, Log and Numbers given back).
-use Rattle.std.specs.Prelude.{ℕ, zero, suc, ◌+◌, List, [], ◌∷◌, ◌++◌, Bool, true, false, not, length, ltb, leb, eqb}
+use Rattle.std.specs.Prelude.{ℕ, zero, suc, ◌+◌, List, [], ◌∷◌, ◌++◌, Bool, true, false, not, ltb, leb, eqb}
 use Rattle.refusals.specs.Refusal.{entry_damaged, entry_type, entry_shape, lsn_order, transaction_order, clash, no_record}
 use Rattle.endian.specs.Pick.{pick}
 use Rattle.wal.specs.Entry.{Entry, size_of, begin, commit, rollback, checkpoint}

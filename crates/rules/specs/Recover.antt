@@ -1,8 +1,8 @@
 -- Recovery: from what is lent and the table to the answer, every page byte and every record afterwards (paper 01, Numbers given back).
-use Rattle.std.specs.Prelude.{ℕ, zero, suc, ◌+◌, ◌*◌, max, List, [], ◌∷◌, ◌++◌, Bool, not, length, drop, ltb, leb, eqb}
+use Rattle.std.specs.Prelude.{ℕ, zero, suc, ◌+◌, max, List, [], ◌∷◌, ◌++◌, Bool, not, length, drop, ltb, leb, eqb}
 use Rattle.refusals.specs.Refusal.{page_area, no_data_page, page_overfull}
 use Rattle.endian.specs.Pick.{pick, cons_if}
-use Rattle.wal.specs.Entry.{Entry, size_of, begin, commit, rollback}
+use Rattle.wal.specs.Entry.{Entry, size_of, commit, rollback}
 use Rattle.wal.specs.Read.{first}
 use Rattle.wal.specs.Walk.{entries, end_of, ending_of, ending_number}
 use Rattle.page.specs.Layout.{body_bytes, data_type, pages_in, page_at, type_of}

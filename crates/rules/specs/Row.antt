@@ -1,5 +1,5 @@
 -- Reading a row before recovery (paper 01, Numbers given back).
-use Rattle.std.specs.Prelude.{ℕ, ◌+◌, List, [], ◌∷◌, Bool, true, false, length, drop, leb, eqb}
+use Rattle.std.specs.Prelude.{ℕ, ◌+◌, List, [], ◌∷◌, true, false, length, leb, eqb}
 use Rattle.refusals.specs.Refusal.{no_such_page}
 use Rattle.endian.specs.Pick.{pick}
 use Rattle.wal.specs.Entry.{entry_of, delete, update}

@@ -1,5 +1,5 @@
 -- The shapes of entries, and what a change does to a slot (paper 01, Log and Which image wins).
-use Rattle.std.specs.Prelude.{ℕ, zero, suc, ◌+◌, List, [], ◌∷◌, ◌++◌, Bool, true, false, length, take, drop, leb, eqb}
+use Rattle.std.specs.Prelude.{ℕ, zero, suc, List, [], ◌∷◌, ◌++◌, Bool, true, false, length, take, drop, leb, eqb}
 use Rattle.endian.specs.Pick.{pick}
 use Rattle.endian.specs.Numbers.{bytes_of, number_at}
 use Rattle.wal.specs.Entry.{Entry, begin, commit, rollback, insert, delete, checkpoint, update}

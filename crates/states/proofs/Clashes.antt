@@ -2,7 +2,7 @@
 -- Assumes nothing.
 use mathlib.Core.Path.{◌≡◌, refl, sym, ◌∙◌, subst}
 use mathlib.Core.Bool.{Bool, true, false, not}
-use Prim.Native.Nat.{ℕ, zero, suc, ◌+◌, ◌≤◌}
+use Prim.Native.Nat.{ℕ, zero, suc, ◌≤◌}
 use native.Mathlib.Omega.{arith}
 use mathlib.Core.List.{List, [], ◌∷◌, ◌++◌, append_assoc}
 use lib.Dec.{eqb}
@@ -10,7 +10,7 @@ use borrow.Author.Tests.{eqb-true, eqb-false, eq-eqb, ne_eqb}
 use Rattle.endian.specs.Pick.{pick}
 use Rattle.wal.specs.Entry.{Entry, commit, rollback}
 use Rattle.rules.specs.Shape.{both, either, is_change, is_on, page_of, slot_of, same_slot}
-use Rattle.rules.specs.Order.{any, is, ended, clashes}
+use Rattle.rules.specs.Order.{any, ended, clashes}
 use Rattle.rules.proofs.Tests.{false-true, both_true, true-both, either-false, not-true}
 use Rattle.rules.proofs.OrderLaws.{Every, every_map}
 use Rattle.states.specs.State.{state_after, state_from, state_of}

@@ -3,7 +3,7 @@ use Rattle.std.specs.Prelude.{ℕ, ◌<◌, ◌≡◌, List, Bool, get_or, eqb}
 use Rattle.endian.specs.Pick.{pick}
 use Rattle.wal.specs.Entry.{Entry, begin, commit, rollback}
 use Rattle.rules.specs.Shape.{is_change}
-use Rattle.rules.specs.Order.{count, is_begin}
+use Rattle.rules.specs.Order.{count}
 use Rattle.rules.specs.Recover.{outcome_of, transactions, changes_of, changes_zero}
 use Rattle.tally.specs.declared.Tally.{Tally}
 

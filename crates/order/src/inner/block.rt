@@ -219,7 +219,17 @@ fn right(
         return is_change(v.kind);
     }
     in_turn(
-        log, at, v.kind, t, lo, hi, stop, begins, ends, near_begins, near_ends,
+        log,
+        at,
+        v.kind,
+        t,
+        lo,
+        hi,
+        stop,
+        begins,
+        ends,
+        near_begins,
+        near_ends,
     )
 }
 

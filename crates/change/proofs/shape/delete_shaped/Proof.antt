@@ -1,5 +1,3 @@
-use Rattle.rules.proofs.Tests.{not-true}
-use Rattle.change.proofs.Shapes.{not-false}
 use borrow.Author.Tests.{eq-eqb, ne_eqb}
 use borrow.Author.Rules.{rules}
 use mathlib.Core.Path.{◌∙◌, sym}

@@ -1,8 +1,7 @@
 use mathlib.Core.Path.{sym, ◌∙◌}
 use borrow.Author.Rules.{rules}
 use native.Mathlib.Omega.{arith}
-use Rattle.rules.proofs.Tests.{not-true}
-use Rattle.change.proofs.Shapes.{keyed-short, keyed-is, not-false}
+use Rattle.change.proofs.Shapes.{keyed-short, keyed-is}
 use Rattle.change.proofs.shape.keyed.Statement.{statement}
 use Rattle.change.proofs.shape.keyed.Tie as tie
 

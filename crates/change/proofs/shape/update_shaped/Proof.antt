@@ -3,8 +3,7 @@ use Rattle.endian.specs.Numbers.{part}
 use mathlib.Core.Path.{sym, ◌∙◌}
 use borrow.Author.Tests.{ne_eqb}
 use borrow.Author.Rules.{rules}
-use Rattle.rules.proofs.Tests.{not-true}
-use Rattle.change.proofs.Shapes.{not-false, old-unkeyed, old-keyed}
+use Rattle.change.proofs.Shapes.{old-unkeyed, old-keyed}
 use Rattle.change.proofs.shape.update_shaped.Statement.{statement}
 use Rattle.change.proofs.shape.update_shaped.Tie as tie
 

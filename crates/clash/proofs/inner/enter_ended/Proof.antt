@@ -5,8 +5,6 @@ use mathlib.Core.Path.{sym, ◌∙◌}
 use borrow.Author.Rules.{rules}
 use lib.ListN.{get_or}
 use native.Mathlib.Omega.{arith}
-use Rattle.rules.proofs.Tests.{not-true}
-use borrow.Author.Tests.{not-false}
 use Rattle.clash.specs.Open.{Open}
 use Rattle.clash.proofs.OpenLaws.{open-ended, open-ended2, open-absent, opens-same, opens-set, opens-set2}
 use Rattle.clash.proofs.inner.enter_ended.Statement.{statement}

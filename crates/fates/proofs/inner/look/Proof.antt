@@ -1,7 +1,6 @@
 -- `look` meets its contract: what is still to be found from the present place on is what was to be found from the first.
 -- Assumes nothing.
 use mathlib.Core.Path.{◌≡◌, refl, sym, ◌∙◌}
-use mathlib.Core.Logic.{⊎_elim}
 use Prim.Native.Nat.{◌-◌}
 use native.Mathlib.Omega.{arith}
 use Rattle.wal.specs.Prefix.{Met, onward}
@@ -56,7 +55,7 @@ loop-again c =
       rw k.long
           (elim c.if-u-t.branch [
             | then-u-t+else-e-eq2+else-e-eq3 w ↦
-              sym (going-here _ l.at _ k.stands v.result v.ensures w.if-u-t.true w.if-e-eq2.false w.if-e-eq3.false) ∙ l.invariant.1
+                sym (going-here _ l.at _ k.stands v.result v.ensures w.if-u-t.true w.if-e-eq2.false w.if-e-eq3.false) ∙ l.invariant.1
             | else-u-t w ↦ sym (other-here _ l.at _ k.stands v.result v.ensures w.if-u-t.false) ∙ l.invariant.1
           ]),
     )

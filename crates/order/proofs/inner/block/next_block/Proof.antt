@@ -1,7 +1,5 @@
 -- What was collected is made a block.
 -- Assumes nothing.
-use native.Mathlib.Omega.{arith}
-use mathlib.Core.Path.{◌∙◌}
 use borrow.Author.Rules.{rules}
 use Rattle.order.proofs.inner.block.next_block.Statement.{statement}
 use Rattle.order.proofs.inner.block.next_block.Tie as tie

@@ -1,9 +1,7 @@
 -- An index of each array, for the numbers that both have.
 -- Assumes nothing.
 use mathlib.Core.Path.{refl}
-use native.Mathlib.Omega.{arith}
 use borrow.Author.Rules.{rules}
-use Rattle.index.proofs.Counting.{places_same}
 use Rattle.order.proofs.Gathering.{blocked}
 use Rattle.order.proofs.inner.block.settle.Statement.{statement}
 use Rattle.order.proofs.inner.block.settle.Tie as tie

@@ -1,8 +1,6 @@
 -- The fronts of the arrays are lent.
 -- Assumes nothing.
 use mathlib.Core.Path.{sym}
-use native.Mathlib.Omega.{arith}
-use borrow.Author.Rules.{rules}
 use lib.Seq.{length-take-le}
 use Rattle.order.proofs.Tellings.{telling}
 use Rattle.order.proofs.inner.block.tested.Statement.{statement}

@@ -6,7 +6,6 @@ use mathlib.Core.Path.{◌≡◌, sym, ◌∙◌}
 use mathlib.Core.Bool.{true}
 use borrow.Author.Rules.{rules}
 use borrow.Author.Tests.{not-false}
-use native.Mathlib.Omega.{arith}
 use Rattle.wal.specs.Entry.{Entry, entry_of}
 use Rattle.rules.specs.Shape.{is_known, is_shaped}
 use Rattle.rules.proofs.Tests.{not-true}
