@@ -41,12 +41,10 @@ fits c = sym c.tuple_fits.ensures ∙ c.if-not-tuple_fits.false
 element-copy-out-if3 : tie.Need-bounds-grid-g invariant-loop decreases-loop
 element-copy-out-if3 c = start-in _ _ _ _ (fits c)
 
-returns-2 : tie.Need-returns-then-grid-g-ne0 invariant-loop decreases-loop
-returns-2 c = never
-
 element-write-grid : tie.Need-bounds-grid-g-in-loop-k invariant-loop decreases-loop
 element-write-grid c = start-in _ _ _ _ (fits c.before.before)
 
+-- what the test of the granule says is left to omega, so that no answer is named after the test
 loop-again-2 : tie.Need-loop-k-preserved invariant-loop decreases-loop
 loop-again-2 c =
     let t = c.before.before in
@@ -55,13 +53,13 @@ loop-again-2 c =
     let l = o.before.before.loop-k in (
       omega arith,
       singly-more _ _ l.invariant.1 (sym (fine-tuple _ _ _ _ _ o.slot_off-o.ensures.0 n.slot_len-n.ensures.0 t.before.before.if-o-n-eq0.false) ∙ fits t),
-      placed-tuple _ l.invariant.2 _ o.slot_off-o.ensures.0 (start-in _ _ _ _ (fits t)) c.if-grid-g-ne0.false,
+      placed-tuple _ l.invariant.2 _ o.slot_off-o.ensures.0 (start-in _ _ _ _ (fits t)) (omega arith),
     )
 
-returns-3 : tie.Need-returns invariant-loop decreases-loop
-returns-3 c = λ _. let l = c.before.loop-k in placed-all _ _ _ l.invariant.0 (omega arith) l.invariant.1 l.invariant.2
+returns-2 : tie.Need-returns invariant-loop decreases-loop
+returns-2 c = λ _. let l = c.before.loop-k in placed-all _ _ _ l.invariant.0 (omega arith) l.invariant.1 l.invariant.2
 
 pub placed_spec : {M : Type 1} → statement M
 placed_spec =
     tie.close
-    (tie.spec invariant-loop decreases-loop loop-holds (λ c κs. search rules) (λ c κs. search rules) (λ c. search rules) (λ c. search rules) (λ c. search rules) loop-again (λ c κs. search rules) returns (λ c. search rules) element-copy-out-if3 returns-2 (λ c. search rules) (λ c. search rules) element-write-grid (λ c. search rules) loop-again-2 returns-3)
+    (tie.spec invariant-loop decreases-loop loop-holds (λ c κs. search rules) (λ c κs. search rules) (λ c. search rules) (λ c. search rules) (λ c. search rules) loop-again (λ c κs. search rules) returns (λ c. search rules) element-copy-out-if3 (λ c. never) (λ c. search rules) (λ c. search rules) element-write-grid (λ c. search rules) loop-again-2 returns-2)

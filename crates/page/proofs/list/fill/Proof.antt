@@ -36,16 +36,6 @@ returns c =
 sub-if1 : tie.Need-overflow_sub-out invariant-loop decreases-loop
 sub-if1 c = let g = c.loop-row.invariant in omega (arith, given-length _ _ _ _ _ g, g.room)
 
-same-length-2 : tie.Need-shape_of-out-then-out-m-lt-ROW_NUMBERS invariant-loop decreases-loop
-same-length-2 c = given-length _ _ _ _ _ c.loop-row.invariant
-
-returns-2 : tie.Need-returns-then-out-m-lt-ROW_NUMBERS invariant-loop decreases-loop
-returns-2 c =
-    let n = c.before.before.before in
-    let g = c.loop-row.invariant in
-    let e = given-full _ _ _ _ _ g _ (met n) (omega (arith, given-length _ _ _ _ _ g)) in
-    (c.row_list-then-out-m-lt-ROW_NUMBERS.ensures ∙ e.0, e.1)
-
 put-row-requires : tie.Need-put_row-requires invariant-loop decreases-loop
 put-row-requires c κs = let g = c.loop-row.invariant in omega (arith, given-length _ _ _ _ _ g)
 
@@ -66,7 +56,28 @@ loop-again c =
     let g = c.loop-row.invariant in
     given-more _ _ _ _ _ g _ _ (met n) (omega (arith, given-length _ _ _ _ _ g)) c.put_row.ensures
 
+-- the two answers at a full list are given in place, so that no answer is named after its test
 pub fill_spec : {M : Type 1} → statement M
 fill_spec =
     tie.close
-    (tie.spec invariant-loop decreases-loop loop-holds next-shown-requires (λ c. search rules) (λ c κs. search rules) same_length returns sub-if1 (λ c κs. search rules) same-length-2 returns-2 put-row-requires add-m add-k loop-less loop-again)
+    (tie.spec
+    invariant-loop
+    decreases-loop
+    loop-holds
+    next-shown-requires
+    (λ c. search rules)
+    (λ c κs. search rules)
+    same_length
+    returns
+    sub-if1
+    (λ c κs. search rules)
+    (λ c. given-length _ _ _ _ _ c.loop-row.invariant)
+    (λ c.
+    let g = c.loop-row.invariant in
+    let e = given-full _ _ _ _ _ g _ (met c.before.before.before) (omega (arith, given-length _ _ _ _ _ g)) in
+    (rw (← e.0) (search rules), e.1))
+    put-row-requires
+    add-m
+    add-k
+    loop-less
+    loop-again)

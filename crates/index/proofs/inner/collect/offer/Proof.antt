@@ -6,47 +6,42 @@ use Rattle.index.proofs.Collecting.{stock-skip, stock-put, stock-whole, offer-cu
 use Rattle.index.proofs.inner.collect.offer.Statement.{statement}
 use Rattle.index.proofs.inner.collect.offer.Tie as tie
 
-returns : tie.Need-returns-then-t-lo
+returns : tie.Need-returns-then-hi-t
 returns c =
-    let start = c.before.before.before.before.before in
-    let t = c.before.before.number_of-t.ensures in
-    (start.requires.1.0.0, stock-skip _ start.requires.1.1 (λ a b. omega (arith, t, c.if-t-lo.true)))
-
-returns-2 : tie.Need-returns-then-hi-t
-returns-2 c =
     let start = c.before.before.before.before.before.before.before.before in
     let t = c.before.before.before.before.before.number_of-t.ensures in
     (start.requires.1.0.0, stock-skip _ start.requires.1.1 (λ a b. omega (arith, t, c.if-hi-t.true)))
 
-returns-3 : tie.Need-returns-then-len-a
-returns-3 c =
+returns-2 : tie.Need-returns-then-len-a
+returns-2 c =
     let start = c.before.before.before.before.before.before.before.before.before.before.before.before.before in
     let t = c.before.before.before.before.before.before.before.before.before.before.number_of-t.ensures in
-    stock-put start.args.held.len start.args.p start.requires.1.1 c.before.before.before.before.if-len-a.true start.requires.0.0 start.requires.0.1 t c.before.before.before.before.before.before.before.before.if-t-lo.false c.before.before.put-n.ensures
+    stock-put start.args.held.len start.args.p start.requires.1.1 c.before.before.before.before.if-len-a.true start.requires.0.0 start.requires.0.1 t (omega (arith, t)) c.before.before.put-n.ensures
 
 cut-requires : tie.Need-cut-c-requires
 cut-requires c κs =
     let start = c.before.before.before.before.before.before.before.before.before.before in
     (stock-whole start.args.a.now start.args.held.len c.before.if-len-a.false start.requires.1.1, start.requires.1.0.1)
 
-returns-4 : tie.Need-returns
-returns-4 c =
+returns-3 : tie.Need-returns
+returns-3 c =
     let start = c.before.before.before.before.before.before.before.before.before.before.before.before.before.before.before.before.before.before in
     let t = c.before.before.before.before.before.before.before.before.before.before.before.before.before.before.before.number_of-t.ensures in
     let cut = c.before.before.before.before.before.before.before.cut-c in
-    offer-cut start.args.held.len cut.result.len start.args.p c.before.before.before.before.before.before.before.before.before.if-len-a.false start.requires.0.0 start.requires.0.1 t c.before.before.before.before.before.before.before.before.before.before.before.before.before.if-t-lo.false cut.ensures c.before.before.put-n-2.ensures
+    offer-cut start.args.held.len cut.result.len start.args.p c.before.before.before.before.before.before.before.before.before.if-len-a.false start.requires.0.0 start.requires.0.1 t (omega (arith, t)) cut.ensures c.before.before.put-n-2.ensures
 
 pub offer_spec : {M : Type 1} → statement M
 offer_spec =
     tie.close
     (tie.spec
     (λ c κs. search rules)
+    -- no answer is named after the test of the lower bound, and none cites it
+    (λ c. (c.requires.1.0.0, stock-skip _ c.requires.1.1 (λ a b. omega (arith, c.number_of-t.ensures))))
     returns
-    returns-2
     (λ c κs. search rules)
     (λ c. search rules)
-    returns-3
+    returns-2
     cut-requires
     (λ c κs. search rules)
     (λ c. search rules)
-    returns-4)
+    returns-3)
