@@ -1,10 +1,6 @@
 -- What is known once recovery without a table accepts. Assumes nothing.
 use Rattle.std.specs.Prelude.{◌≡◌, ℕ, List}
-use mathlib.Core.Path.{sym}
-use Rattle.refusals.specs.Verdict.{accepted}
-use Rattle.rules.specs.Lent.{lent}
 use Rattle.rules.specs.Order.{never_full}
-use Rattle.rules.specs.Recover.{recover_verdict}
 use Rattle.rules.proofs.Verdicts.{is-accepted}
 use Rattle.recovery.specs.Judgement.{Judgement, Gathered}
 use Rattle.recovery.specs.Ready.{Ready}

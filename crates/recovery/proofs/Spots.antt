@@ -15,7 +15,6 @@ use Rattle.page.specs.Layout.{page_bytes, head_bytes, data_type, pages_in, page_
 use Rattle.refusals.specs.Verdict.{verdict, accepted}
 use Rattle.page.specs.Good.{TupleGood}
 use Rattle.refusals.specs.declared.Verdict.{Verdict}
-use Rattle.rules.specs.Shape.{stamped}
 use Rattle.rules.specs.Order.{never_full}
 use Rattle.rules.specs.Mend.{committed, top_of, decided}
 use Rattle.rules.specs.Recover.{recover_verdict}

@@ -16,7 +16,6 @@ pub struct Trip {
 }
 
 // A reader is opened and passed from step to step.
-#[tactic(auto, unfolding(crate::specs::Trip::trip_of))]
 pub fn there_and_back(log: &[u8], end: bool) -> Trip
     ensures { result ≡ trip_of end log.now }
 {

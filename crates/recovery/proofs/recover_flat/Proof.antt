@@ -8,7 +8,7 @@ use Rattle.rules.specs.Order.{full_at}
 use Rattle.rules.specs.Recover.{recover_verdict}
 use Rattle.rules.specs.declared.Answer.{Answer}
 use Rattle.rules.proofs.Again.{answer-zero}
-use Rattle.recovery.proofs.Outcome.{Sure, sure, answer-refused, answer-tail, begins-of, flat-answer, flat-pages, flat-done, flat-refused}
+use Rattle.recovery.proofs.Outcome.{sure, answer-refused, answer-tail, begins-of, flat-answer, flat-pages, flat-done, flat-refused}
 use Rattle.recovery.proofs.recover_flat.Statement.{statement}
 use Rattle.recovery.proofs.recover_flat.Tie as tie
 use Rattle.rules.specs.Lent.{lent}

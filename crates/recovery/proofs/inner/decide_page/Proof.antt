@@ -2,7 +2,6 @@
 -- Assumes nothing.
 use Rattle.std.specs.Prelude.{◌≡◌}
 use native.Mathlib.Omega.{arith}
-use borrow.Author.Rules.{rules}
 use Rattle.wal.specs.Walk.{entries}
 use Rattle.rules.specs.Mend.{top_of}
 use Rattle.images.proofs.Deciding.{top-asked, top-found, page-cells}

@@ -1,8 +1,6 @@
 -- `head` meets its contract, case by case.
 -- Assumes nothing.
-use Rattle.std.specs.Prelude.{◌≡◌}
-use mathlib.Core.Path.{sym, ap, ◌∙◌}
-use native.Mathlib.Omega.{arith}
+use mathlib.Core.Path.{◌∙◌}
 use borrow.Author.Rules.{rules}
 use Rattle.recovery.proofs.Heads.{tuple-logged, tuple-paged, tuple-empty, head-logged, head-paged, spot-head-refused, spot-head}
 use Rattle.recovery.proofs.row.head.Statement.{statement}

@@ -1,7 +1,6 @@
 -- `head_in` meets its contract: a stamped tuple's xmax and deleted byte are those of its stamp.
 -- Assumes nothing.
-use Rattle.std.specs.Prelude.{◌≡◌}
-use mathlib.Core.Path.{sym, ap, ◌∙◌}
+use mathlib.Core.Path.{◌∙◌}
 use native.Mathlib.Omega.{arith}
 use borrow.Author.Rules.{rules}
 use Rattle.recovery.proofs.Heads.{head-stamped, head_plain}

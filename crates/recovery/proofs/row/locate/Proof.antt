@@ -1,8 +1,6 @@
-use Rattle.std.specs.Prelude.{◌≡◌}
 use mathlib.Core.Path.{sym, ap, ◌∙◌}
 use native.Mathlib.Omega.{arith}
 use Rattle.rules.specs.declared.RowHead.{RowHead}
-use Rattle.rules.specs.declared.Located.{Located}
 use Rattle.recovery.specs.Spot.{located_by}
 use Rattle.recovery.proofs.RowLaws.{lies-small, located-head}
 use borrow.Author.Rules.{rules}
