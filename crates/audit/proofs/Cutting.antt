@@ -4,9 +4,7 @@ use mathlib.Core.Path.{◌≡◌, refl, sym, ap, ap₂, ◌∙◌}
 use mathlib.Core.Bool.{Bool, true, false}
 use mathlib.Core.List.{List}
 use native.Mathlib.Omega.{arith}
-use lib.ListN.{length, take, drop, length-drop}
-use lib.Seq.{length-take-le}
-use Rattle.endian.specs.Pick.{pick}
+use lib.ListN.{length, take, drop}
 use Rattle.endian.specs.Numbers.{part}
 use Rattle.rules.specs.Shape.{same, stamped}
 use Rattle.rules.proofs.ImageLaws.{stamped-length}

@@ -1,5 +1,5 @@
 -- Our own recovered pages are judged yes. Assumes nothing.
-use Prim.Native.Nat.{ℕ, zero, suc, ◌*◌, ◌≤◌, ◌<◌}
+use Prim.Native.Nat.{ℕ, zero, suc, ◌*◌, ◌<◌}
 use mathlib.Core.Path.{◌≡◌, refl, sym, ap, ◌∙◌}
 use mathlib.Core.Bool.{Bool}
 use mathlib.Core.Logic.{inr}
@@ -11,7 +11,7 @@ use Rattle.endian.proofs.Bytes.{number-range, bytes_take, bytes_drop}
 use Rattle.wal.specs.Entry.{Entry}
 use Rattle.wal.specs.Read.{header_fault, read_at, first}
 use Rattle.wal.specs.Walk.{entries, end_of}
-use Rattle.page.specs.Layout.{page_bytes, pages_in, page_at, reserved_of}
+use Rattle.page.specs.Layout.{page_bytes, pages_in, page_at}
 use Rattle.page.specs.Packed.{Head}
 use Rattle.page.proofs.Fields.{magic-back, type-back, id-back, reserved-back}
 use Rattle.page.proofs.FaultLaws.{sound-good}

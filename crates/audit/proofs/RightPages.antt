@@ -1,15 +1,15 @@
 -- One page: nothing is found exactly when it is right, and else its lowest slot that differs. Assumes nothing.
-use Prim.Native.Nat.{ℕ, zero, suc, ◌+◌, ◌≤◌, ◌<◌, max}
+use Prim.Native.Nat.{ℕ, zero, suc, ◌+◌, ◌≤◌, ◌<◌}
 use mathlib.Core.Path.{◌≡◌, refl, sym, ap, ◌∙◌}
 use mathlib.Core.Bool.{Bool, true, false}
-use mathlib.Core.Logic.{◌⊎◌, inl, inr}
+use mathlib.Core.Logic.{inl, inr}
 use mathlib.Core.List.{List}
 use native.Mathlib.Decide.{dec_le}
 use native.Mathlib.Omega.{arith}
 use borrow.Author.Tests.{eq-eqb}
 use Rattle.endian.specs.Pick.{pick}
 use Rattle.wal.specs.Entry.{Entry}
-use Rattle.page.specs.Layout.{count_of, magic_of, type_of, id_of, reserved_of, slot_at}
+use Rattle.page.specs.Layout.{magic_of, type_of, id_of, slot_at}
 use Rattle.page.proofs.Slots.{slot-past}
 use Rattle.rules.specs.Shape.{same}
 use Rattle.rules.specs.Mend.{committed, top_of, decided}

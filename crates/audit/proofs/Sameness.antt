@@ -1,12 +1,12 @@
 -- Equal runs of bytes, told eight bytes at a time; and a tuple that is to be stamped. Assumes nothing.
-use Prim.Native.Nat.{ℕ, suc, ◌+◌, ◌^◌, ◌-◌, ◌≤◌, ◌<◌}
-use mathlib.Core.Path.{◌≡◌, refl, sym, ap, ap₂, ◌∙◌}
-use mathlib.Core.Bool.{true, false}
-use mathlib.Core.List.{List, [], ◌∷◌, ◌++◌, append_assoc}
+use Prim.Native.Nat.{ℕ, ◌+◌, ◌^◌, ◌-◌, ◌≤◌, ◌<◌}
+use mathlib.Core.Path.{◌≡◌, refl, sym, ap, ◌∙◌}
+use mathlib.Core.Bool.{false}
+use mathlib.Core.List.{List, [], ◌∷◌, ◌++◌}
 use native.Mathlib.Omega.{arith}
 use native.Mathlib.Decide.{ℕ_discrete}
-use lib.ListN.{length, get_or, take, drop, length-drop, length-append, take-append-drop}
-use lib.Seq.{drop-drop, drop_at, drop-cons, take_all, length-take-le}
+use lib.ListN.{length, get_or, take, drop, length-drop, take-append-drop}
+use lib.Seq.{drop-drop, drop-cons, take_all, length-take-le}
 use lib.Dec.{eqb}
 use borrow.Author.Tests.{eq-eqb, ne_eqb}
 use Rattle.endian.specs.Numbers.{part, number_of, number_at, bytes_of, Bytes}
@@ -14,7 +14,7 @@ use Rattle.endian.proofs.Numbers.{length-bytes_of, number-back}
 use Rattle.endian.proofs.Places.{number-byte}
 use Rattle.endian.proofs.Bytes.{bytes_take, bytes_drop, bytes-of}
 use Rattle.page.specs.Layout.{xmin_of, xmax_of, deleted_of}
-use Rattle.rules.specs.Shape.{both, same, stamped}
+use Rattle.rules.specs.Shape.{same, stamped}
 use Rattle.rules.proofs.ImageLaws.{stamped-deleted}
 use Rattle.change.proofs.Shapes.{number-tells, same_refl, same_false}
 use Rattle.recovery.proofs.Heads.{stamped-xmin, stamped-xmax}

@@ -1,6 +1,6 @@
 -- The theorems of W10: yes exactly when paper 02's sentence holds, and a no names the lowest page that is not right and its lowest slot that differs.
 -- Assumes nothing.
-use Prim.Native.Nat.{ℕ, zero, suc, ◌+◌, ◌-◌, ◌*◌, ◌%◌, ◌≤◌, ◌<◌}
+use Prim.Native.Nat.{ℕ, zero, suc, ◌+◌, ◌-◌, ◌≤◌, ◌<◌}
 use mathlib.Core.Path.{◌≡◌, refl, sym, ap, ◌∙◌}
 use mathlib.Core.Bool.{Bool, true, false}
 use mathlib.Core.List.{List}
@@ -13,17 +13,15 @@ use borrow.Author.Tests.{eq-eqb, ne_eqb, eqb-true, eqb-false}
 use Rattle.endian.specs.Pick.{pick}
 use Rattle.wal.specs.Entry.{Entry}
 use Rattle.wal.specs.Walk.{entries}
-use Rattle.page.specs.Layout.{page_bytes, pages_in, page_at, slot_at}
-use Rattle.page.specs.Good.{Good}
+use Rattle.page.specs.Layout.{pages_in, page_at, slot_at}
 use Rattle.page.specs.Fault.{never_late, first_bad, size_wrong, verdict_from}
 use Rattle.page.proofs.Verdicts.{number_of, page-length, right-size, case-search, accepted-good, good-accepted}
-use Rattle.refusals.specs.Verdict.{verdict, accepted, ◌then◌}
-use Rattle.refusals.specs.declared.Verdict.{Verdict}
+use Rattle.refusals.specs.Verdict.{verdict, accepted}
 use Rattle.refusals.proofs.Then.{then-zero, zero-then}
-use Rattle.rules.specs.Order.{never_full, full_at}
+use Rattle.rules.specs.Order.{never_full}
 use Rattle.rules.specs.Mend.{committed, decided, mend}
 use Rattle.rules.specs.Lent.{lent}
-use Rattle.rules.specs.Recover.{recover_verdict, mended_from, recover_of}
+use Rattle.rules.specs.Recover.{recover_verdict, recover_of}
 use Rattle.rules.specs.declared.Record.{Record}
 use Rattle.rules.proofs.Again.{recover-zero, recover-done}
 use Rattle.rules.proofs.Area.{page-mended}
@@ -31,8 +29,8 @@ use Rattle.rules.proofs.Mended.{slot-mended, length-mended}
 use Rattle.rules.proofs.Tests.{false-true}
 use Rattle.rules.proofs.Verdicts.{Accepted, is-accepted}
 use Rattle.audit.specs.declared.Finding.{Finding}
-use Rattle.audit.specs.Judge.{length_verdict, judge_verdict, alike, apart, refused_by, found_by, page_finding, or_else, finding_from, judge_from}
-use Rattle.audit.specs.Right.{PageRight, SlotNamed, ours, RightAt, Lendable, Right, Wrong}
+use Rattle.audit.specs.Judge.{length_verdict, judge_verdict, alike, apart, refused_by, page_finding, or_else, finding_from, judge_from}
+use Rattle.audit.specs.Right.{PageRight, SlotNamed, ours, Lendable, Right, Wrong}
 use Rattle.audit.proofs.Pagewise.{else-true, else-false}
 use Rattle.audit.proofs.RightPages.{differs-of, page-right, right-page, page-names}
 

@@ -1,23 +1,20 @@
 -- The slots of one page, one after the other, and what is found of a page. Assumes nothing.
-use Prim.Native.Nat.{ℕ, zero, suc, ◌+◌, ◌-◌, ◌≤◌, ◌<◌, max}
-use mathlib.Core.Path.{◌≡◌, refl, sym, ap, ap₂, ◌∙◌}
+use Prim.Native.Nat.{ℕ, suc, ◌+◌, ◌-◌, ◌≤◌, ◌<◌}
+use mathlib.Core.Path.{◌≡◌, sym, ap₂, ◌∙◌}
 use mathlib.Core.Bool.{Bool, true, false}
 use mathlib.Core.List.{List}
 use native.Mathlib.Numerals.{add-one}
 use native.Mathlib.Omega.{arith}
 use lib.ListN.{length}
-use lib.Dec.{ltb, eqb}
-use borrow.Author.Tests.{eq-eqb, ne_eqb, lt-ltb, le-ltb}
-use Rattle.endian.specs.Pick.{pick}
+use borrow.Author.Tests.{eq-eqb, ne_eqb, lt-ltb}
 use Rattle.endian.specs.Numbers.{part}
 use Rattle.wal.specs.Entry.{Entry}
 use Rattle.page.specs.Layout.{magic_of, type_of, id_of, reserved_of, slot_at}
-use Rattle.rules.specs.Shape.{both, same}
+use Rattle.rules.specs.Shape.{same}
 use Rattle.rules.specs.Mend.{committed, top_of, decided}
 use Rattle.images.specs.declared.Image.{Image}
-use Rattle.images.specs.Tuples.{tuple_in, Lies, Stood, InPage, PagedAt}
-use Rattle.mend.proofs.Tuples.{cut, page-tuple}
-use Rattle.audit.specs.declared.Finding.{Finding}
+use Rattle.images.specs.Tuples.{tuple_in, Stood, InPage, PagedAt}
+use Rattle.mend.proofs.Tuples.{page-tuple}
 use Rattle.audit.specs.Judge.{alike, apart, slot_agrees, head_agrees, slots_in, slots_from, page_finding}
 
 -- ---- one slot

@@ -1,6 +1,6 @@
 -- What is told of one page. Assumes nothing.
 use Prim.Native.Nat.{ℕ, ◌+◌, ◌-◌, ◌*◌, ◌<◌}
-use mathlib.Core.Path.{◌≡◌, refl, sym, ap, ◌∙◌}
+use mathlib.Core.Path.{◌≡◌, sym, ap, ◌∙◌}
 use mathlib.Core.Bool.{Bool, true, false}
 use mathlib.Core.List.{List, [], ◌∷◌}
 use types.Run.{OneOf, miss}
@@ -9,20 +9,20 @@ use lib.ListN.{length, take, drop}
 use lib.Dec.{eqb}
 use borrow.Author.Tests.{eqb-true}
 use Rattle.wal.specs.Entry.{Entry}
-use Rattle.page.specs.Layout.{page_bytes, data_type, page_at, magic_of, type_of, id_of, reserved_of}
+use Rattle.page.specs.Layout.{page_bytes, data_type, page_at, magic_of, type_of, id_of}
 use Rattle.page.specs.Fault.{fault_of}
 use Rattle.page.specs.declared.Fault.{Fault}
 use Rattle.page.specs.declared.Fault.TheVariants.{Sound as Faultfree}
 use Rattle.page.specs.contracts.Fault.{the_type}
 use Rattle.page.proofs.FaultLaws.{sound-good}
 use Rattle.page.proofs.Verdicts.{page-part}
-use Rattle.rules.specs.Shape.{both, same}
+use Rattle.rules.specs.Shape.{same}
 use Rattle.rules.specs.Mend.{top_of}
 use Rattle.rules.proofs.Tests.{both_true, false-true}
 use Rattle.images.specs.Page.{Sound}
 use Rattle.audit.specs.declared.Finding.{Finding}
 use Rattle.audit.specs.declared.PageJudged.{PageJudged}
-use Rattle.audit.specs.Judge.{alike, apart, slot_agrees, head_agrees, slots_in, slots_from, page_finding}
+use Rattle.audit.specs.Judge.{alike, apart, slot_agrees, head_agrees, slots_in, slots_from}
 use Rattle.audit.specs.Known.{PageKnown}
 use Rattle.audit.specs.Right.{SameHead}
 use Rattle.change.proofs.Shapes.{same_true}

@@ -1,6 +1,5 @@
-use mathlib.Core.Path.{sym, ap, ◌∙◌}
-use native.Mathlib.Omega.{arith}
-use borrow.Author.Tests.{lt-ltb, le-ltb}
+use mathlib.Core.Path.{sym, ◌∙◌}
+use borrow.Author.Tests.{lt-ltb}
 use Rattle.audit.proofs.Pagewise.{else-true, else-false, later}
 use Rattle.audit.proofs.areas.earlier.Statement.{statement}
 use Rattle.audit.proofs.areas.earlier.Tie as tie

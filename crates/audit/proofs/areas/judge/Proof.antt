@@ -1,6 +1,6 @@
 -- `judge` meets its contract: each refusal in its turn, then what comparing finds.
 -- Assumes nothing.
-use mathlib.Core.Path.{◌≡◌, sym, ap, ◌∙◌}
+use mathlib.Core.Path.{sym, ap, ◌∙◌}
 use borrow.Author.Rules.{rules}
 use Rattle.page.proofs.Verdicts.{number_of}
 use Rattle.audit.proofs.Pagewise.{judge-refused, judge-lengths, judge-compared, faultless}

@@ -4,8 +4,6 @@ use mathlib.Core.Path.{◌≡◌, sym, ◌∙◌}
 use borrow.Author.Rules.{rules}
 use Rattle.page.specs.Fault.{fault_of}
 use Rattle.page.specs.declared.Fault.TheVariants.{Sound as Faultfree}
-use Rattle.rules.proofs.Tests.{not-true}
-use Rattle.change.proofs.Shapes.{not-false}
 use Rattle.audit.proofs.Telling.{known-faulty, known-head, known-slots, later-sound}
 use Rattle.audit.proofs.areas.touched.Statement.{statement}
 use Rattle.audit.proofs.areas.touched.Tie as tie

@@ -5,7 +5,6 @@ use mathlib.Core.Path.{◌≡◌, refl, sym, ap₂, ◌∙◌}
 use native.Mathlib.Omega.{arith}
 use lib.ListN.{length, drop}
 use lib.Dec.{eqb}
-use borrow.Author.Rules.{rules}
 use Rattle.endian.specs.Numbers.{Bytes}
 use Rattle.rules.specs.Shape.{same}
 use Rattle.audit.proofs.Sameness.{same-lengths, same-past, same_not, same_rest}

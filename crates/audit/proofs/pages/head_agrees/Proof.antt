@@ -2,7 +2,7 @@
 -- Assumes nothing.
 use mathlib.Core.Path.{◌≡◌, sym, ◌∙◌}
 use borrow.Author.Rules.{rules}
-use Rattle.page.specs.Layout.{magic_of, type_of, id_of}
+use Rattle.page.specs.Layout.{magic_of, type_of}
 use Rattle.audit.proofs.Slotwise.{head-magic, head-type, head-id, head-rest}
 use Rattle.audit.proofs.pages.head_agrees.Statement.{statement}
 use Rattle.audit.proofs.pages.head_agrees.Tie as tie

@@ -6,8 +6,6 @@ use native.Mathlib.Omega.{arith}
 use borrow.Author.Rules.{rules}
 use Rattle.wal.specs.Walk.{entries}
 use Rattle.page.specs.Layout.{count_of}
-use Rattle.rules.proofs.Tests.{not-true}
-use Rattle.change.proofs.Shapes.{not-false}
 use Rattle.images.proofs.Deciding.{starts-rise, slots-are}
 use Rattle.audit.specs.Judge.{slot_agrees, slots_in, slots_from}
 use Rattle.audit.proofs.Slotwise.{slots-here, slots_next, slots_end, slots-start}
