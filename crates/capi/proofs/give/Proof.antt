@@ -17,15 +17,6 @@ decreases-loop numbers out₀ i₀ out i = length numbers - i
 loop-holds : tie.Need-loop-i-init invariant-loop decreases-loop
 loop-holds c = (refl, omega arith, omega arith, refl)
 
-same_length : tie.Need-shape_of-out-then-i-out invariant-loop decreases-loop
-same_length c = c.loop-i.invariant.3
-
-returns : tie.Need-returns-then-i-out invariant-loop decreases-loop
-returns c =
-    let l = c.loop-i in
-    let e : l.i ≡ length c.args.out.now = omega arith in
-    (rw e at l.invariant.0) ∙ no_room _ _ (omega arith)
-
 loop-again : tie.Need-loop-i-preserved invariant-loop decreases-loop
 loop-again c =
     let l = c in
@@ -49,4 +40,6 @@ returns-2 c =
 pub give_spec : {M : Type 1} → statement M
 give_spec =
     tie.close
-    (tie.spec invariant-loop decreases-loop loop-holds same_length returns (λ c. search rules) (λ c. search rules) (λ c. search rules) (λ c. search rules) (λ c. search rules) (λ c. search rules) loop-again same-length-2 returns-2)
+    (tie.spec invariant-loop decreases-loop loop-holds (λ c. c.loop-i.invariant.3) (λ c.
+    let e : c.loop-i.i ≡ length c.args.out.now = omega arith in
+    (rw e at c.loop-i.invariant.0) ∙ no_room _ _ (omega arith)) (λ c. search rules) (λ c. search rules) (λ c. search rules) (λ c. search rules) (λ c. search rules) (λ c. search rules) loop-again same-length-2 returns-2)
