@@ -27,22 +27,15 @@ returns-2 c =
     let e = c in
     stamped-by _ _ _ (bytes-t k) (bytes-u k) e.requires.0 e.requires.1 (omega (arith, e.ranges.x)) (λ q. c.if-u64_at-x.true (c.u64_at-3.ensures ∙ q))
 
-returns-3 : tie.Need-returns-then-u-ne1
-returns-3 c =
-    let k = c.before.before.before.before.before.before.before in
-    let e = c in
-    stamped-mark _ _ _ (bytes-t k) (bytes-u k) e.requires.0 e.requires.1 (omega (arith, e.ranges.x)) c.if-u-ne1.true
-
 returns-4 : tie.Need-returns
 returns-4 c =
-    let d = c in
     let h = c in
     let f = c in
     let k = c.before.before.before.before.before.before.before.before.before.before in
     let e = c in
     c.same.ensures ∙ ap₂ same (rest_part 17 e.args.t.now) (rest_part 17 e.args.u.now)
     ∙ stamped-rest _ _ _ (bytes-t k) (bytes-u k) e.requires.0 e.requires.1 (omega (arith, e.ranges.x)) (sym f.u64_at.ensures ∙ f.if-u64_at.false ∙ f.u64_at-2.ensures)
-    (sym h.u64_at-3.ensures ∙ h.if-u64_at-x.false) d.if-u-ne1.false
+    (sym h.u64_at-3.ensures ∙ h.if-u64_at-x.false) (omega arith)
 
 pub same_stamped_spec : {M : Type 1} → statement M
 same_stamped_spec =
@@ -54,7 +47,9 @@ same_stamped_spec =
     (λ c κs. search rules)
     returns-2
     (λ c. search rules)
-    returns-3
+    (λ c.
+    let k = c.before.before.before.before.before.before.before in
+    stamped-mark _ _ _ (bytes-t k) (bytes-u k) c.requires.0 c.requires.1 (omega (arith, c.ranges.x)) (λ e. omega arith))
     (λ c. search rules)
     (λ c. search rules)
     (λ c. search rules)

@@ -14,7 +14,7 @@ cast-opens c = let p = c.before.before.before.before.before.requires in omega (a
 returns-2 : tie.Need-returns
 returns-2 c =
     let p = c.before.before.before.before.before.before.requires in
-    λ z. turning-begin p.1.1 p.0 _ _ p.1.0.0 p.1.0.1 (omega (arith, c.before.before.if-t-highest.false)) c.free_cell-r.ensures
+    λ z. turning-begin p.1.1 p.0 _ _ p.1.0.0 p.1.0.1 (omega arith) c.free_cell-r.ensures
 
 pub begin_turn_spec : {M : Type 1} → statement M
 begin_turn_spec = tie.close (tie.spec (λ c. λ z. false-true z) (λ c κs. search rules) cast-opens (λ c. search rules) (λ c. search rules) returns-2)
