@@ -20,10 +20,10 @@ use table::inner::records::fill;
 use table::inner::{GUESSES, fill_flat};
 use tally::Tally;
 
-mod core;
 pub mod inner;
 mod judge;
 mod row;
+mod tableless;
 
 // The first refusal, or where the log ends; accepted, the counts of the answer.
 #[derive(Clone, Copy)]
@@ -46,7 +46,7 @@ pub fn recover(magic: u64, floor: Lsn, pages: &mut [u8], log: &[u8], table: &mut
     ensures pages_after { pages.new ≡ (recover_of (lent magic floor.0 pages.old log.now) table.old).pages }
     ensures table_after { table.new ≡ (recover_of (lent magic floor.0 pages.old log.now) table.old).table }
 {
-    let a = core::recover(magic, floor, pages, log, table.len() as u64);
+    let a = tableless::recover(magic, floor, pages, log, table.len() as u64);
     fill(log, a, table);
     a
 }
@@ -74,7 +74,7 @@ pub fn recover_flat(
     ensures table_after { table.new ≡ (recover_flat (lent magic floor.0 pages.old log.now) table.old).table }
 {
     let records = (table.len() / STRIDE) as u64;
-    let a = core::recover(magic, floor, pages, log, records);
+    let a = tableless::recover(magic, floor, pages, log, records);
     if a.number == 0 {
         fill_table(log, a.tail as usize, table);
     }

@@ -5,8 +5,8 @@ use native.Mathlib.Omega.{arith}
 use Rattle.std.specs.Prelude.{[]}
 use borrow.Author.Rules.{rules}
 use Rattle.recovery.proofs.Outcome.{sure, verdict-zero, run-refused, run-done}
-use Rattle.recovery.proofs.core.run.Statement.{statement}
-use Rattle.recovery.proofs.core.run.Tie as tie
+use Rattle.recovery.proofs.tableless.run.Statement.{statement}
+use Rattle.recovery.proofs.tableless.run.Tie as tie
 
 -- A run that goes on was not refused: each goal asks omega for that, so it is of no matter what the test is called.
 mend-all-requires : tie.Need-mend_all-rewritten-requires

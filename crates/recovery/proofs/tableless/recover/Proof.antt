@@ -1,6 +1,6 @@
 use borrow.Author.Rules.{rules}
-use Rattle.recovery.proofs.core.recover.Statement.{statement}
-use Rattle.recovery.proofs.core.recover.Tie as tie
+use Rattle.recovery.proofs.tableless.recover.Statement.{statement}
+use Rattle.recovery.proofs.tableless.recover.Tie as tie
 
 run-requires : tie.Need-run-requires
 run-requires c κs = c.tables-t.ensures
