@@ -20,5 +20,5 @@ rolls-back c = rw c.if-kind-eq-ROLLBACK.true
 pub told_spec : {M : Type 1} → statement M
 unfolding told_by
 told_spec = tie.close (tie.spec commits rolls-back (λ c κs. search rules) (λ c. search rules)
-    (λ c. let e : is_changing c.args.kind ≡ true = cc in rw (ne_eqb _ _ c.if-kind-eq-COMMIT.false, ne_eqb _ _ c.if-kind-eq-ROLLBACK.false, e))
-    (λ c. let e : is_changing c.args.kind ≡ false = cc in rw (ne_eqb _ _ c.if-kind-eq-COMMIT.false, ne_eqb _ _ c.if-kind-eq-ROLLBACK.false, e)))
+    (λ c. let e : is_changing c.args.kind ≡ true = search rules in rw (ne_eqb _ _ c.if-kind-eq-COMMIT.false, ne_eqb _ _ c.if-kind-eq-ROLLBACK.false, e))
+    (λ c. let e : is_changing c.args.kind ≡ false = search rules in rw (ne_eqb _ _ c.if-kind-eq-COMMIT.false, ne_eqb _ _ c.if-kind-eq-ROLLBACK.false, e)))

@@ -6,6 +6,7 @@ use mathlib.Core.Path.{◌≡◌, sym, ◌∙◌}
 use mathlib.Core.Bool.{true}
 use borrow.Author.Rules.{rules}
 use borrow.Author.Tests.{not-false}
+use native.Mathlib.Omega.{arith}
 use Rattle.wal.specs.Entry.{Entry, entry_of}
 use Rattle.rules.specs.Shape.{is_known, is_shaped}
 use Rattle.rules.proofs.Tests.{not-true}
@@ -34,7 +35,7 @@ returns-2 c = early-shape _ _ (known c.before.before) (sym c.shaped.ensures ∙ 
 
 returns-3 : tie.Need-returns-then-v-last
 unfolding entry entry_of
-returns-3 c = early-lsn _ _ (known c.before.before.before.before.before) (shaped c.before.before.before) c.if-v-last.true
+returns-3 c = early-lsn _ _ (known c.before.before.before.before.before) (shaped c.before.before.before) (omega arith)
 
 returns-4 : tie.Need-returns
 unfolding entry entry_of
