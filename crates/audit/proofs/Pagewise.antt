@@ -14,7 +14,7 @@ use Rattle.wal.specs.Entry.{Entry}
 use Rattle.wal.specs.Walk.{entries}
 use Rattle.page.specs.Layout.{pages_in, page_at}
 use Rattle.page.specs.Fault.{fault_of, never_late, page_verdict, first_bad}
-use Rattle.page.specs.declared.Fault.TheVariants.{Sound}
+use Rattle.std.specs.Prelude.{None}
 use Rattle.page.proofs.Verdicts.{number_of, page-fine, fine-page, bad-next, bad-here, bad-end}
 use Rattle.refusals.specs.Refusal.{page_areas_differ}
 use Rattle.refusals.specs.Verdict.{verdict, accepted, ◌then◌}
@@ -133,7 +133,7 @@ module _ (es : List Entry) (before after : List ℕ) where
 -- ---- the pages after
 
 module _ (magic : ℕ) (s : List ℕ) where
-  pub after_next : (n i : ℕ) → i < n → fault_of magic i (page_at i s) ≡ Sound → first_bad never_late magic s (n - i) i ≡ first_bad never_late magic s (n - (i + 1)) (i + 1)
+  pub after_next : (n i : ℕ) → i < n → fault_of magic i (page_at i s) ≡ None → first_bad never_late magic s (n - i) i ≡ first_bad never_late magic s (n - (i + 1)) (i + 1)
   after_next n i l e = bad-next never_late magic s n i l (ap number_of (fine-page never_late magic i (page_at i s) e refl))
 
   pub after-end : (n i : ℕ) → n ≤ i → first_bad never_late magic s (n - i) i ≡ accepted
@@ -143,7 +143,7 @@ module _ (magic : ℕ) (s : List ℕ) where
   after-start before e = let z : pages_in before - 0 ≡ pages_in s = omega arith in rw z
 
   -- a page with a fault is refused
-  pub after-bad : (n i : ℕ) → i < n → (fault_of magic i (page_at i s) ≡ Sound → ⊥) → (first_bad never_late magic s (n - i) i).number ≡ 0 → ⊥
+  pub after-bad : (n i : ℕ) → i < n → (fault_of magic i (page_at i s) ≡ None → ⊥) → (first_bad never_late magic s (n - i) i).number ≡ 0 → ⊥
   after-bad n i l h z =
       let x : (page_verdict never_late magic i (page_at i s)).number ≡ 0 → ⊥ = λ q. h (page-fine never_late magic i (page_at i s) q).0 in
       x (sym (ap number_of (bad-here never_late magic s n i l x)) ∙ z)

@@ -1,6 +1,6 @@
 -- Equal runs of bytes, told eight bytes at a time; and a tuple that is to be stamped. Assumes nothing.
 use Prim.Native.Nat.{ℕ, ◌+◌, ◌^◌, ◌-◌, ◌≤◌, ◌<◌}
-use mathlib.Core.Path.{◌≡◌, refl, sym, ap, ◌∙◌}
+use mathlib.Core.Path.{◌≡◌, refl, sym, ap, ap₂, ◌∙◌}
 use mathlib.Core.Bool.{false}
 use mathlib.Core.List.{List, [], ◌∷◌, ◌++◌}
 use native.Mathlib.Omega.{arith}
@@ -16,8 +16,21 @@ use Rattle.endian.proofs.Bytes.{bytes_take, bytes_drop, bytes-of}
 use Rattle.page.specs.Layout.{xmin_of, xmax_of, deleted_of}
 use Rattle.rules.specs.Shape.{same, stamped}
 use Rattle.rules.proofs.ImageLaws.{stamped-deleted}
-use Rattle.change.proofs.Shapes.{number-tells, same_refl, same_false}
+use Rattle.change.proofs.Shapes.{same_refl, same_false}
 use Rattle.recovery.proofs.Heads.{stamped-xmin, stamped-xmax}
+
+-- a list of bytes is told by its number and its length
+number-tells : (l m : List ℕ) → Bytes l → Bytes m → length l ≡ length m → number_of l ≡ number_of m → l ≡ m
+unfolding number_of
+number-tells [] [] h k e q = refl
+number-tells [] (y ∷ m) h k e q = absurd (omega arith)
+number-tells (x ∷ l) [] h k e q = absurd (omega arith)
+number-tells (x ∷ l) (y ∷ m) h k e q =
+    let a : x < 256 = h.at 0 in
+    let b : y < 256 = k.at 0 in
+    let front : x ≡ y = omega arith in
+    let rest : number_of l ≡ number_of m = omega arith in
+    ap₂ (λ (z : ℕ) (n : List ℕ). z ∷ n) front (number-tells l m (bytes_drop 1 h) (bytes_drop 1 k) (omega arith) rest)
 
 -- what stands before is the same
 pub same-front : (x l m : List ℕ) → same (x ++ l) (x ++ m) ≡ same l m

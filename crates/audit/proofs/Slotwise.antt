@@ -1,6 +1,6 @@
 -- The slots of one page, one after the other, and what is found of a page. Assumes nothing.
 use Prim.Native.Nat.{ℕ, suc, ◌+◌, ◌-◌, ◌≤◌, ◌<◌}
-use mathlib.Core.Path.{◌≡◌, sym, ap₂, ◌∙◌}
+use mathlib.Core.Path.{refl, ◌≡◌, sym, ap₂, ◌∙◌}
 use mathlib.Core.Bool.{Bool, true, false}
 use mathlib.Core.List.{List}
 use native.Mathlib.Numerals.{add-one}
@@ -12,19 +12,27 @@ use Rattle.wal.specs.Entry.{Entry}
 use Rattle.page.specs.Layout.{magic_of, type_of, id_of, reserved_of, slot_at}
 use Rattle.rules.specs.Shape.{same}
 use Rattle.rules.specs.Mend.{committed, top_of, decided}
-use Rattle.images.specs.declared.Image.{Image}
-use Rattle.images.specs.Tuples.{tuple_in, Stood, InPage, PagedAt}
-use Rattle.mend.proofs.Tuples.{page-tuple}
+use Rattle.change.specs.declared.Image.{Image}
+use Rattle.change.specs.Tuples.{source_in, tuple_in, Stood}
+use Rattle.images.specs.Tuples.{InPage, PagedAt}
+use Rattle.std.specs.Prelude.{Option, None, Some}
+use Rattle.endian.specs.declared.TxnNumber.{TxnNumber}
+use Rattle.change.specs.declared.Source.TheVariants.{Log, Page}
+use Rattle.mend.proofs.Tuples.{plain-tuple}
 use Rattle.audit.specs.Judge.{alike, apart, slot_agrees, head_agrees, slots_in, slots_from, page_finding}
 
 -- ---- one slot
 
 -- what a page's slot holds is the part of it that its image names
 pub kept-part : {q t : List ℕ} {k : ℕ} {o : Image} → InPage q o t → PagedAt q k o → part o.place o.length q ≡ t
-kept-part {q} {t} {k} {o} h at =
-    let d = h.stood q in
-    let e : o.place + o.length - o.place ≡ o.length = omega arith in
-    (rw e at (page-tuple d.lies at.paged)) ∙ d.is
+kept-part {q} {t} {k} {o} h at = go o.deleted_by refl
+  where
+    there : part o.place o.length q ≡ part o.place o.length (source_in q q o.source)
+    there = rw at.paged refl
+
+    go : (x : Option TxnNumber) → o.deleted_by ≡ x → part o.place o.length q ≡ t
+    go None e = plain-tuple (h.stood q).lies there e ∙ (h.stood q).is
+    go (Some x) e = let z : Page ≡ Log = sym at.paged ∙ ((h.stood q).lies.headed x e).0 in absurd cc
 
 pub kept-within : {q t : List ℕ} {k : ℕ} {o : Image} → InPage q o t → PagedAt q k o → o.place + o.length ≤ length q
 kept-within {q} h at = rw at.paged at (h.stood q).lies.within

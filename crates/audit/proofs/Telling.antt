@@ -1,27 +1,21 @@
 -- What is told of one page. Assumes nothing.
-use Prim.Native.Nat.{ℕ, ◌+◌, ◌-◌, ◌*◌, ◌<◌}
+use Prim.Native.Nat.{ℕ, ◌<◌}
 use mathlib.Core.Path.{◌≡◌, sym, ap, ◌∙◌}
 use mathlib.Core.Bool.{Bool, true, false}
-use mathlib.Core.List.{List, [], ◌∷◌}
-use types.Run.{OneOf, miss}
-use denote.Enum.Declared.{tag_of}
-use lib.ListN.{length, take, drop}
+use mathlib.Core.List.{List}
+use lib.ListN.{length}
 use lib.Dec.{eqb}
 use borrow.Author.Tests.{eqb-true}
 use Rattle.wal.specs.Entry.{Entry}
-use Rattle.page.specs.Layout.{page_bytes, data_type, page_at, magic_of, type_of, id_of}
+use Rattle.page.specs.Layout.{page_bytes, data_type, magic_of, type_of, id_of}
 use Rattle.page.specs.Fault.{fault_of}
-use Rattle.page.specs.declared.Fault.{Fault}
-use Rattle.page.specs.declared.Fault.TheVariants.{Sound as Faultfree}
-use Rattle.page.specs.contracts.Fault.{the_type}
+use Rattle.std.specs.Prelude.{None}
 use Rattle.page.proofs.FaultLaws.{sound-good}
-use Rattle.page.proofs.Verdicts.{page-part}
 use Rattle.rules.specs.Shape.{same}
 use Rattle.rules.specs.Mend.{top_of}
 use Rattle.rules.proofs.Tests.{both_true, false-true}
 use Rattle.images.specs.Page.{Sound}
 use Rattle.audit.specs.declared.Finding.{Finding}
-use Rattle.audit.specs.declared.PageJudged.{PageJudged}
 use Rattle.audit.specs.Judge.{alike, apart, slot_agrees, head_agrees, slots_in, slots_from}
 use Rattle.audit.specs.Known.{PageKnown}
 use Rattle.audit.specs.Right.{SameHead}
@@ -39,17 +33,17 @@ head-same p q h =
 module _ (magic : ℕ) (es : List Entry) (i : ℕ) (p q : List ℕ) where
   -- not touched
   module _ (none : top_of i es ≡ 0) where
-    pub known_same : fault_of magic i p ≡ Faultfree → same p q ≡ true → {f : Finding} → f ≡ alike → PageKnown magic es i p q (record { sound = true; finding = f })
+    pub known_same : fault_of magic i p ≡ None → same p q ≡ true → {f : Finding} → f ≡ alike → PageKnown magic es i p q (record { sound = true; finding = f })
     known_same h s e = record { sound = λ _. ap (fault_of magic i) (sym (same_true p q s)) ∙ h; faulty = λ z. false-true (sym z); finding = λ _. e ∙ page-same es i p q none s }
 
-    pub known-other : same p q ≡ false → {b : Bool} → (b ≡ true → fault_of magic i q ≡ Faultfree) × (b ≡ false → fault_of magic i q ≡ Faultfree → ⊥) → {f : Finding} → f ≡ apart i 0 → PageKnown magic es i p q (record { sound = b; finding = f })
+    pub known-other : same p q ≡ false → {b : Bool} → (b ≡ true → fault_of magic i q ≡ None) × (b ≡ false → fault_of magic i q ≡ None → ⊥) → {f : Finding} → f ≡ apart i 0 → PageKnown magic es i p q (record { sound = b; finding = f })
     known-other s h e = record { sound = h.0; faulty = h.1; finding = λ _. e ∙ page-other es i p q none s }
 
   -- touched
-  pub known-faulty : (fault_of magic i q ≡ Faultfree → ⊥) → {f : Finding} → PageKnown magic es i p q (record { sound = false; finding = f })
+  pub known-faulty : (fault_of magic i q ≡ None → ⊥) → {f : Finding} → PageKnown magic es i p q (record { sound = false; finding = f })
   known-faulty h = record { sound = λ e. false-true e; faulty = λ _. h; finding = λ e. false-true e }
 
-  module _ (some : 0 < top_of i es) (fine : fault_of magic i q ≡ Faultfree) where
+  module _ (some : 0 < top_of i es) (fine : fault_of magic i q ≡ None) where
     pub known-head : head_agrees p q ≡ false → {f : Finding} → f ≡ apart i 0 → PageKnown magic es i p q (record { sound = true; finding = f })
     known-head h e = record { sound = λ _. fine; faulty = λ z. false-true (sym z); finding = λ _. e ∙ page-head es i p q some h }
 
@@ -57,15 +51,6 @@ module _ (magic : ℕ) (es : List Entry) (i : ℕ) (p q : List ℕ) where
     known-slots h e = record { sound = λ _. fine; faulty = λ z. false-true (sym z); finding = λ _. e ∙ page-slots es i p q some h }
 
 -- as a `let .. else` on a fault finds it
-pub not_sound : (f : Fault) → OneOf (1 ∷ 2 ∷ 3 ∷ 4 ∷ 5 ∷ 6 ∷ 7 ∷ []) (tag_of the_type f) → f ≡ Faultfree → ⊥
-not_sound f o e = miss (1 ∷ 2 ∷ 3 ∷ 4 ∷ 5 ∷ 6 ∷ 7 ∷ []) 0 tt (rw e at o)
 
--- both pages as code cuts them out of their areas
-pub known-cut : {magic : ℕ} {es : List Entry} (i : ℕ) (before after : List ℕ) {r : PageJudged}
-    → PageKnown magic es i (take (i * 16384 + 16384 - i * 16384) (drop (i * 16384) before)) (take (i * 16384 + 16384 - i * 16384) (drop (i * 16384) after)) r
-    → PageKnown magic es i (page_at i before) (page_at i after) r
-known-cut i before after h = rw (page-part before i, page-part after i) at h
-
--- a page after that has no fault and the type of a Data page before
-pub later-sound : (magic i : ℕ) (p q : List ℕ) → length q ≡ page_bytes → fault_of magic i q ≡ Faultfree → head_agrees p q ≡ true → type_of p ≡ data_type → Sound q
+pub later-sound : (magic i : ℕ) (p q : List ℕ) → length q ≡ page_bytes → fault_of magic i q ≡ None → head_agrees p q ≡ true → type_of p ≡ data_type → Sound q
 later-sound magic i p q size fine h d = record { size = size; good = (sound-good magic i q size fine).data_good (sym (head-same p q h).type ∙ d) }

@@ -5,6 +5,7 @@ ghost use Rattle.std.specs.Prelude.{◌≡◌};
 ghost use Rattle.rules.specs.Lent.{lent};
 ghost use Rattle.audit.specs.Judge.{judge_from, judge_of};
 
+use cells::Scratch;
 use crc32c::inner::tables;
 use endian::{Lsn, PageNumber};
 use refusals::Verdict;
@@ -14,6 +15,7 @@ mod bytes;
 mod pages;
 
 // A refusal, or whether a page differs; the lowest such page and its lowest slot that does, 0 for an untouched page or a difference in the header.
+// Kept (a): `audit Judge.judge_from` and C `lq_judge` hold it.
 #[derive(Clone, Copy)]
 pub struct Finding {
     pub verdict: Verdict,
@@ -41,11 +43,13 @@ pub fn judge_from(
     ensures { result ≡ judge_from (lent magic floor.0 before.now log.now) after.now first.0 }
 {
     let t = tables();
-    let mut starts = [0u32; 4097];
-    let mut lasts = [0u32; 4096];
-    let mut lists = [0u32; 4097];
-    let mut fronts = [0u32; 4096];
-    let mut space = [0u8; 655360];
+    let mut s = Scratch {
+        starts: [0u32; 4097],
+        lasts: [0u32; 4096],
+        lists: [0u32; 4097],
+        fronts: [0u32; 4096],
+        space: [0u8; 655360],
+    };
     areas::judge(
         &t,
         magic,
@@ -54,11 +58,7 @@ pub fn judge_from(
         log,
         after,
         first.0 as usize,
-        &mut starts,
-        &mut lasts,
-        &mut lists,
-        &mut fronts,
-        &mut space,
+        &mut s,
     )
 }
 

@@ -1,19 +1,19 @@
 // One page before and after: the lowest slot in which it differs from what recovery would leave.
-ghost use Rattle.std.specs.Prelude.{◌≡◌, ◌+◌, ◌≤◌, max, length};
+ghost use Rattle.std.specs.Prelude.{◌≡◌, ◌+◌, ◌≤◌, length};
 ghost use Rattle.endian.specs.Numbers.{part};
 ghost use Rattle.wal.specs.Walk.{entries};
 ghost use Rattle.page.specs.Layout.{page_bytes};
 ghost use Rattle.rules.specs.Shape.{same};
-ghost use Rattle.fates.specs.Fate.{Ordered};
-ghost use Rattle.images.specs.Tuples.{Lies, tuple_in};
-ghost use Rattle.images.specs.Page.{PageCells, Sound};
+ghost use Rattle.change.specs.Tuples.{Lies, tuple_in};
+ghost use Rattle.images.specs.Page.{Sound};
 ghost use Rattle.audit.specs.Judge.{alike, apart, slot_agrees, head_agrees, slots_in, slots_from};
 
 use crate::Finding;
 use crate::bytes::{same, same_stamped};
+use change::Image;
 use endian::PageNumber;
-use images::Image;
-use images::inner::{kept_image, slot_image, slots_for};
+use images::Slots;
+use images::inner::{bytes, kept_image};
 use page::inner::{count, id, kind, magic};
 use page::{HEAD_BYTES, RESERVED_AT};
 use refusals::Verdict;
@@ -57,71 +57,35 @@ fn same_tuple(log: &[u8], p: &[u8], m: Image, q: &[u8], at: usize, n: usize) -> 
     if m.length != n {
         return false;
     }
-    let a = m.place;
-    let e = a + n;
-    let f = at + n;
-    if !m.logged {
-        return same(&p[a..e], &q[at..f]);
-    }
-    if m.stamped {
-        let x = m.by;
-        return same_stamped(&log[a..e], x.0, &q[at..f]);
-    }
-    same(&log[a..e], &q[at..f])
+    let there = &q[at..at + n];
+    let Some(x) = m.deleted_by else {
+        return same(bytes(m, log, p), there);
+    };
+    same_stamped(bytes(m, log, p), x.0, there)
 }
 
-// Whether slot k of page i, which was p and now is q, holds what recovery would leave there.
-fn slot_agrees(
-    log: &[u8],
-    p: &[u8],
-    q: &[u8],
-    starts: &[u32; 4097],
-    i: usize,
-    cells: &[u32; 4080],
-    k: usize,
-) -> bool
-    requires ordered { Ordered log.now }
-    requires page_cells { PageCells log.now i starts.now cells.now }
-    requires sound { Sound p.now }
+// Whether slot k of a page, which now is q, holds what recovery would leave there.
+fn slot_agrees(slots: &Slots, q: &[u8], k: usize) -> bool
+    requires sound { Sound slots.now.page.now }
     requires sound_2 { Sound q.now }
-    ensures { result ≡ slot_agrees (entries log.now) i p.now q.now k }
+    ensures { result ≡ slot_agrees (entries slots.now.log.now) slots.now.i slots.now.page.now q.now k }
 {
-    let m = slot_image(log, p, starts, i, cells, k);
+    let m = slots.image(k);
     let o = kept_image(q, k);
-    same_tuple(log, p, m, q, o.place, o.length)
+    same_tuple(slots.log, slots.page, m, q, o.place, o.length)
 }
 
-fn larger(a: usize, b: usize) -> usize
-    ensures { result ≡ max a b }
-{
-    if a < b {
-        return b;
-    }
-    a
-}
-
-// The lowest slot of page i that does not.
-pub fn slots_finding(
-    log: &[u8],
-    p: &[u8],
-    q: &[u8],
-    starts: &[u32; 4097],
-    i: usize,
-    cells: &[u32; 4080],
-) -> Finding
-    requires ordered { Ordered log.now }
-    requires page_cells { PageCells log.now i starts.now cells.now }
-    requires sound { Sound p.now }
+// The lowest slot of a page, which now is q, that does not.
+pub fn slots_finding(slots: &Slots, q: &[u8]) -> Finding
+    requires sound { Sound slots.now.page.now }
     requires sound_2 { Sound q.now }
-    ensures { result ≡ slots_from (slot_agrees (entries log.now) i p.now q.now) i (slots_in (entries log.now) i p.now q.now) 0 }
+    ensures { result ≡ slots_from (slot_agrees (entries slots.now.log.now) slots.now.i slots.now.page.now q.now) slots.now.i (slots_in (entries slots.now.log.now) slots.now.i slots.now.page.now q.now) 0 }
 {
-    let n = larger(slots_for(p, starts, i), count(q));
-    let mut k: usize = 0;
-    while k < n {
-        if !slot_agrees(log, p, q, starts, i, cells, k) {
-            return difference(i, k);
+    let n = slots.count().max(count(q));
+    for k in 0..n {
+        if !slot_agrees(slots, q, k) {
+            return difference(slots.i, k);
         }
-        k += 1;
     }
     nothing()
 }
@@ -137,9 +101,7 @@ pub fn head_agrees(p: &[u8], q: &[u8]) -> bool
     if kind(p) != kind(q) {
         return false;
     }
-    let a = id(p);
-    let b = id(q);
-    if a.0 != b.0 {
+    if id(p) != id(q) {
         return false;
     }
     same(&p[RESERVED_AT..HEAD_BYTES], &q[RESERVED_AT..HEAD_BYTES])

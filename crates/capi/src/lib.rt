@@ -5,17 +5,17 @@ ghost use Rattle.rules.specs.Lent.{lent};
 ghost use Rattle.std.specs.Prelude.{◌≡◌, ◌/◌, length};
 ghost use Rattle.crc32c.specs.Crc.{crc32c as crc_of};
 ghost use Rattle.wal.specs.Read.{found};
-ghost use Rattle.wal.specs.declared.Before.TheVariants.{Found, Nothing};
+ghost use Rattle.refusals.specs.Verdict.{by_number, told};
 ghost use Rattle.page.specs.Rows.{visible_rows, cancelled_rows, numbers_per_row, row_list, rows_after};
-ghost use Rattle.page.specs.FreeMap.{map_after};
+ghost use Rattle.page.specs.FreeMap.{free_count, map_after};
 ghost use Rattle.doublewrite.specs.File.{contents_of, id_of};
 ghost use Rattle.doublewrite.specs.Repair.{repair_of, pages_after};
 ghost use Rattle.doublewrite.specs.Write.{written_of, file_after};
-ghost use Rattle.catalog.specs.TableRows.{row_of, older_row_of, write_answer, area_after};
+ghost use Rattle.catalog.specs.TableRows.{answer_of, row_of, older_row_of, write_answer, area_after};
 ghost use Rattle.catalog.specs.Search.{table_found};
 ghost use Rattle.summary.specs.Summary.{numbered_row, step_of, summary_of, summary_written, summary_after};
 ghost use Rattle.intake.specs.Orders.{mark_of, order_found, orders_repeated};
-ghost use Rattle.capi.specs.Answers.{version, given, open_numbers, step_numbers, kind_forward, kind_backward, forward_numbers, backward_numbers, verify_numbers, verify_from_numbers, row_numbers, next_visible_numbers, list_numbers, free_map_numbers, contents_numbers, restored_numbers, table_numbers, written_numbers, answer_numbers, located_numbers, read_row_numbers, summary_numbers, numbered_numbers, summary_step_numbers, found_numbers, repeated_numbers, finding_numbers};
+ghost use Rattle.capi.specs.Answers.{version, given, counted, open_numbers, step_numbers, kind_forward, kind_backward, forward_numbers, backward_numbers, verdict_numbers, verify_numbers, verify_from_numbers, row_numbers, next_visible_numbers, list_numbers, free_map_numbers, contents_numbers, restored_numbers, table_numbers, table_written_numbers, written_numbers, answer_numbers, located_numbers, read_row_numbers, summary_numbers, numbered_numbers, summary_step_numbers, found_numbers, repeated_numbers, finding_numbers};
 ghost use Rattle.recovery.specs.Flat.{recover_flat};
 ghost use Rattle.audit.specs.Judge.{judge_from, judge_of};
 
@@ -23,11 +23,13 @@ use audit::Finding;
 use catalog::TableRow;
 use endian::{Lsn, PageNumber};
 use intake::{FoundOrder, RepeatedOrders};
-use page::{NextRow, RowList};
+use page::{Row, RowList};
+use refusals::Refused;
 use rules::{Answer, Located};
-use summary::{NumberedRow, Summary, SummaryStep};
-use wal::{Before, EntryView, Reading};
+use summary::{Summary, SummaryRow, SummaryStep};
+use wal::{EntryView, Reading};
 
+// The kinds stay numbers, since C reads them as such (include/lumbraquay.h).
 // What a step over the log finds: an entry; the exact end, or no entry that ends at the place; a torn tail; unused room; damage.
 const ENTRY: u64 = 0;
 
@@ -46,13 +48,27 @@ const VERSION: u32 = 2;
 fn give(numbers: &[u64], out: &mut [u64])
     ensures { out.new ≡ given numbers.now out.old }
 {
-    let mut i: usize = 0;
-    while i < numbers.len() {
-        if i == out.len() {
-            return;
-        }
-        out[i] = numbers[i];
-        i += 1;
+    let count = numbers.len().min(out.len());
+    out[..count].copy_from_slice(&numbers[..count]);
+}
+
+// Number and place of a refusal, 0 and 0 for none.
+fn verdict_numbers(r: Result<(), Refused>) -> [u64; 2]
+    ensures { result ≡ verdict_numbers (told r) }
+{
+    match r {
+        Ok(()) => [0, 0],
+        Err(e) => [e.refusal.number(), e.place],
+    }
+}
+
+// Number and place of a refusal, then how many there are, or 0 where it is refused.
+fn counted(r: Result<u64, Refused>) -> [u64; 3]
+    ensures { result ≡ counted (by_number r) }
+{
+    match r {
+        Ok(n) => [0, 0, n],
+        Err(e) => [e.refusal.number(), e.place, 0],
     }
 }
 
@@ -77,35 +93,34 @@ pub extern "C" fn lq_crc32c(s: &[u8]) -> u32
 pub extern "C" fn lq_log_open(log: &[u8], at_end: bool, out: &mut [u64])
     ensures { out.new ≡ given (open_numbers at_end log.now) out.old }
 {
-    let number = wal::header_fault(log);
+    let number = match wal::header_fault(log) {
+        Ok(()) => 0,
+        Err(e) => e.number(),
+    };
     let place = wal::reader::opened_at(log, at_end);
     give(&[number, place as u64], out);
 }
 
-// The numbers of a step that finds an entry.
-fn entry_numbers(next: usize, v: EntryView) -> [u64; 11]
-    ensures { result ≡ step_numbers 0 next (Found v) }
+// The numbers of a step: its kind, the place after it, and those of the entry that it finds, or zeros.
+fn step_numbers(kind: u64, next: usize, entry: Option<EntryView>) -> [u64; 11]
+    ensures { result ≡ step_numbers kind next entry }
 {
-    [
-        ENTRY,
-        next as u64,
-        v.place as u64,
-        v.length as u64,
-        v.lsn.0,
-        v.txn.0,
-        v.kind as u64,
-        v.table as u64,
-        v.key_len as u64,
-        v.old_len as u64,
-        v.new_len as u64,
-    ]
-}
-
-// The numbers of a step that finds none.
-fn no_entry(kind: u64, place: usize) -> [u64; 11]
-    ensures { result ≡ step_numbers kind place Nothing }
-{
-    [kind, place as u64, 0, 0, 0, 0, 0, 0, 0, 0, 0]
+    match entry {
+        Some(v) => [
+            kind,
+            next as u64,
+            v.place as u64,
+            v.length as u64,
+            v.lsn.0,
+            v.txn.0,
+            v.kind as u64,
+            v.table as u64,
+            v.key_len as u64,
+            v.old_len as u64,
+            v.new_len as u64,
+        ],
+        None => [kind, next as u64, 0, 0, 0, 0, 0, 0, 0, 0, 0],
+    }
 }
 
 // The numbers of what a step forward finds, and of the place after it.
@@ -113,22 +128,20 @@ fn forward_numbers(reading: Reading, next: usize) -> [u64; 11]
     ensures { result ≡ step_numbers (kind_forward reading) next (found reading) }
 {
     match reading {
-        Reading::Whole(v) => entry_numbers(next, v),
-        Reading::End => no_entry(END, next),
-        Reading::Torn => no_entry(TORN, next),
-        Reading::Unused => no_entry(UNUSED, next),
-        Reading::Damage => no_entry(DAMAGED, next),
+        Reading::Whole(v) => step_numbers(ENTRY, next, Some(v)),
+        Reading::End => step_numbers(END, next, None),
+        Reading::Torn => step_numbers(TORN, next, None),
+        Reading::Unused => step_numbers(UNUSED, next, None),
+        Reading::Damage => step_numbers(DAMAGED, next, None),
     }
 }
 
 // The numbers of what a step backward finds, and of the place after it.
-fn backward_numbers(reading: Before, next: usize) -> [u64; 11]
-    ensures { result ≡ step_numbers (kind_backward reading) next reading }
+fn backward_numbers(entry: Option<EntryView>, next: usize) -> [u64; 11]
+    ensures { result ≡ step_numbers (kind_backward entry) next entry }
 {
-    match reading {
-        Before::Found(v) => entry_numbers(next, v),
-        Before::Nothing => no_entry(END, next),
-    }
+    let kind = if entry.is_some() { ENTRY } else { END };
+    step_numbers(kind, next, entry)
 }
 
 // A step forward from place.
@@ -136,9 +149,9 @@ fn backward_numbers(reading: Before, next: usize) -> [u64; 11]
 pub extern "C" fn lq_log_forward(log: &[u8], place: u64, out: &mut [u64])
     ensures { out.new ≡ given (forward_numbers log.now place) out.old }
 {
-    let step = wal::reader::forward_at(log, place as usize);
-    let reading = step.found;
-    give(&forward_numbers(reading, step.place), out);
+    let mut next = place as usize;
+    let reading = wal::reader::forward_at(log, &mut next);
+    give(&forward_numbers(reading, next), out);
 }
 
 // A step backward from place.
@@ -146,9 +159,9 @@ pub extern "C" fn lq_log_forward(log: &[u8], place: u64, out: &mut [u64])
 pub extern "C" fn lq_log_backward(log: &[u8], place: u64, out: &mut [u64])
     ensures { out.new ≡ given (backward_numbers log.now place) out.old }
 {
-    let step = wal::reader::backward_at(log, place as usize);
-    let reading = step.found;
-    give(&backward_numbers(reading, step.place), out);
+    let mut next = place as usize;
+    let entry = wal::reader::backward_at(log, &mut next);
+    give(&backward_numbers(entry, next), out);
 }
 
 // Whether every page is good: number and place.
@@ -157,7 +170,7 @@ pub extern "C" fn lq_verify(magic: u64, pages: &[u8], out: &mut [u64])
     ensures { out.new ≡ given (verify_numbers magic pages.now) out.old }
 {
     let v = page::verify(magic, pages);
-    give(&[v.number, v.place], out);
+    give(&verdict_numbers(v), out);
 }
 
 // The same of the pages from an index on.
@@ -166,16 +179,15 @@ pub extern "C" fn lq_verify_from(magic: u64, pages: &[u8], first: u64, out: &mut
     ensures { out.new ≡ given (verify_from_numbers magic pages.now first) out.old }
 {
     let found = page::verify_from(magic, pages, PageNumber(first));
-    give(&[found.number, found.place], out);
+    give(&verdict_numbers(found), out);
 }
 
-// The numbers of what a listing step answers.
-fn row_numbers(next: NextRow) -> [u64; 7]
-    ensures { result ≡ row_numbers next }
+// Number and place of a refusal, whether there is a row, and its numbers.
+fn row_numbers(next: Result<Option<Row>, Refused>) -> [u64; 7]
+    ensures { result ≡ row_numbers (by_number next) }
 {
     match next {
-        NextRow::Refused(v) => [v.number, v.place, 0, 0, 0, 0, 0],
-        NextRow::At(row) => [
+        Ok(Some(row)) => [
             0,
             0,
             1,
@@ -184,7 +196,8 @@ fn row_numbers(next: NextRow) -> [u64; 7]
             row.length as u64,
             row.offset as u64,
         ],
-        NextRow::NoMore => [0, 0, 0, 0, 0, 0, 0],
+        Ok(None) => [0, 0, 0, 0, 0, 0, 0],
+        Err(e) => [e.refusal.number(), e.place, 0, 0, 0, 0, 0],
     }
 }
 
@@ -198,12 +211,13 @@ pub extern "C" fn lq_next_visible(magic: u64, pages: &[u8], page: u64, slot: u16
 }
 
 // The numbers of a listing.
-fn list_numbers(l: RowList) -> [u64; 5]
-    ensures { result ≡ list_numbers l }
+fn list_numbers(l: Result<RowList, Refused>) -> [u64; 5]
+    ensures { result ≡ list_numbers (by_number l) }
 {
-    let v = l.verdict;
-    let next = l.page;
-    [v.number, v.place, l.count as u64, next.0, l.slot as u64]
+    match l {
+        Ok(l) => [0, 0, l.count as u64, l.page.0, l.slot as u64],
+        Err(e) => [e.refusal.number(), e.place, 0, 0, 0],
+    }
 }
 
 // The visible rows at or after a slot of a page, four numbers each in rows, as many as they hold: number, place, how many, and the page and slot to go on from.
@@ -247,7 +261,7 @@ pub extern "C" fn lq_free_map(magic: u64, pages: &[u8], map: &mut [u8], out: &mu
     ensures map_after { map.new ≡ map_after magic pages.now map.old }
 {
     let made = page::free_map(magic, pages, map);
-    give(&[made.verdict.number, made.verdict.place, made.free], out);
+    give(&counted(made), out);
 }
 
 // Reads a double-write file for so many pages: number, place and count of slots.
@@ -256,14 +270,7 @@ pub extern "C" fn lq_doublewrite_read(file: &[u8], pages: u64, out: &mut [u64])
     ensures { out.new ≡ given (contents_numbers (contents_of file.now pages)) out.old }
 {
     let contents = doublewrite::read(file, pages as usize);
-    give(
-        &[
-            contents.verdict.number,
-            contents.verdict.place,
-            contents.slots,
-        ],
-        out,
-    );
+    give(&counted(contents), out);
 }
 
 // The page that a slot of a double-write file names.
@@ -282,14 +289,14 @@ pub extern "C" fn lq_repair(magic: u64, pages: &mut [u8], file: &[u8], out: &mut
     ensures pages_after { pages.new ≡ pages_after magic pages.old file.now }
 {
     let restored = doublewrite::repair(magic, pages, file);
-    give(
-        &[
-            restored.verdict.number,
-            restored.verdict.place,
-            restored.count,
-        ],
-        out,
-    );
+    give(&counted(restored), out);
+}
+
+// Number and place of a refusal, then the length that is written, or 0 where it is refused.
+fn written_numbers(w: Result<usize, Refused>) -> [u64; 3]
+    ensures { result ≡ written_numbers (by_number w) }
+{
+    counted(w.map(|n| n as u64))
 }
 
 // Writes the double-write file of a list of pages: number, place and length.
@@ -299,36 +306,28 @@ pub extern "C" fn lq_doublewrite_write(pages: &[u8], list: &[u64], area: &mut [u
     ensures area_after { area.new ≡ file_after pages.now list.now area.old }
 {
     let written = doublewrite::write(pages, list, area);
-    give(
-        &[
-            written.verdict.number,
-            written.verdict.place,
-            written.length as u64,
-        ],
-        out,
-    );
+    give(&written_numbers(written), out);
 }
 
 // The numbers of a table's row.
-fn table_numbers(t: TableRow) -> [u64; 10]
-    ensures { result ≡ table_numbers t }
+fn table_numbers(t: Result<TableRow, Refused>) -> [u64; 10]
+    ensures { result ≡ table_numbers (answer_of t) }
 {
-    let v = t.verdict;
-    let root = t.root;
-    let schema = t.schema;
-    let name = t.name;
-    [
-        v.number,
-        v.place,
-        t.table as u64,
-        root.0,
-        schema.at as u64,
-        schema.length as u64,
-        name.at as u64,
-        name.length as u64,
-        t.layout as u64,
-        t.version,
-    ]
+    match t {
+        Ok(t) => [
+            0,
+            0,
+            t.table as u64,
+            t.root.0,
+            t.schema.at as u64,
+            t.schema.length as u64,
+            t.name.at as u64,
+            t.name.length as u64,
+            t.layout.number() as u64,
+            t.version,
+        ],
+        Err(e) => [e.refusal.number(), e.place, 0, 0, 0, 0, 0, 0, 0, 0],
+    }
 }
 
 // A catalog payload as the newest reader reads it.
@@ -361,11 +360,11 @@ pub extern "C" fn lq_table_write(
     area: &mut [u8],
     out: &mut [u64],
 )
-    ensures out_after { out.new ≡ given (written_numbers (write_answer schema.now name.now layout area.old)) out.old }
+    ensures out_after { out.new ≡ given (table_written_numbers (write_answer schema.now name.now layout area.old)) out.old }
     ensures area_after { area.new ≡ area_after table root schema.now name.now layout version area.old }
 {
-    let w = catalog::write(table, PageNumber(root), schema, name, layout, version, area);
-    give(&[w.verdict.number, w.verdict.place, w.length as u64], out);
+    let length = catalog::write(table, PageNumber(root), schema, name, layout, version, area);
+    give(&written_numbers(length), out);
 }
 
 // The first visible row with a readable payload and that table id.
@@ -378,22 +377,25 @@ pub extern "C" fn lq_table_find(magic: u64, pages: &[u8], table: u32, out: &mut 
 }
 
 // The numbers of an order that was looked for.
-fn found_numbers(f: FoundOrder) -> [u64; 8]
-    ensures { result ≡ found_numbers f }
+fn found_numbers(f: Result<FoundOrder, Refused>) -> [u64; 8]
+    ensures { result ≡ found_numbers (by_number f) }
 {
-    let v = f.verdict;
-    let o = f.order;
-    let page = o.page;
-    [
-        v.number,
-        v.place,
-        f.found as u64,
-        page.0,
-        o.slot as u64,
-        o.part as u64,
-        o.quantity as u64,
-        f.short as u64,
-    ]
+    match f {
+        Ok(f) => match f.order {
+            Some(o) => [
+                0,
+                0,
+                1,
+                o.page.0,
+                o.slot as u64,
+                o.part as u64,
+                o.quantity as u64,
+                f.short as u64,
+            ],
+            None => [0, 0, 0, 0, 0, 0, 0, f.short as u64],
+        },
+        Err(e) => [e.refusal.number(), e.place, 0, 0, 0, 0, 0, 0],
+    }
 }
 
 // The first visible order with that mark, and how many visible payloads are too short for one.
@@ -406,27 +408,33 @@ pub extern "C" fn lq_find_order(magic: u64, pages: &[u8], mark: &[u8; 16], out: 
 }
 
 // The numbers of a pair of orders.
-fn repeated_numbers(f: RepeatedOrders) -> [u64; 11]
-    ensures { result ≡ repeated_numbers f }
+fn repeated_numbers(f: Result<Option<RepeatedOrders>, Refused>) -> [u64; 11]
+    ensures { result ≡ repeated_numbers (by_number f) }
 {
-    let v = f.verdict;
-    let a = f.first;
-    let b = f.second;
-    let p = a.page;
-    let q = b.page;
-    [
-        v.number,
-        v.place,
-        f.found as u64,
-        p.0,
-        a.slot as u64,
-        a.part as u64,
-        a.quantity as u64,
-        q.0,
-        b.slot as u64,
-        b.part as u64,
-        b.quantity as u64,
-    ]
+    match f {
+        Ok(
+            Some(
+                RepeatedOrders {
+                    first: a,
+                    second: b,
+                },
+            ),
+        ) => [
+            0,
+            0,
+            1,
+            a.page.0,
+            a.slot as u64,
+            a.part as u64,
+            a.quantity as u64,
+            b.page.0,
+            b.slot as u64,
+            b.part as u64,
+            b.quantity as u64,
+        ],
+        Ok(None) => [0, 0, 0, 0, 0, 0, 0, 0, 0, 0, 0],
+        Err(e) => [e.refusal.number(), e.place, 0, 0, 0, 0, 0, 0, 0, 0, 0],
+    }
 }
 
 // The least pair of visible orders with the same mark.
@@ -571,17 +579,17 @@ pub extern "C" fn lq_summary_write(
     ensures area_after { area.new ≡ summary_after magic pages.now lsn area.old }
 {
     let w = summary::write(magic, pages, Lsn(lsn), area);
-    let v = w.verdict;
-    give(&[v.number, v.place, w.length as u64], out);
+    give(&written_numbers(w), out);
 }
 
 // The numbers of a summary that is judged.
-fn summary_numbers(s: Summary) -> [u64; 5]
-    ensures { result ≡ summary_numbers s }
+fn summary_numbers(s: Result<Summary, Refused>) -> [u64; 5]
+    ensures { result ≡ summary_numbers (by_number s) }
 {
-    let v = s.verdict;
-    let last = s.lsn;
-    [v.number, v.place, last.0, s.count, s.first as u64]
+    match s {
+        Ok(s) => [0, 0, s.lsn.0, s.count, s.first as u64],
+        Err(e) => [e.refusal.number(), e.place, 0, 0, 0],
+    }
 }
 
 // Judges a summary: number, place, last LSN, count, place of the first row.
@@ -594,13 +602,14 @@ pub extern "C" fn lq_summary_read(file: &[u8], out: &mut [u64])
 }
 
 // The numbers of a row asked for by its number.
-fn numbered_numbers(n: NumberedRow) -> [u64; 5]
-    ensures { result ≡ numbered_numbers n }
+fn numbered_numbers(n: Result<Option<SummaryRow>, Refused>) -> [u64; 5]
+    ensures { result ≡ numbered_numbers (by_number n) }
 {
-    let v = n.verdict;
-    let row = n.row;
-    let page = row.page;
-    [v.number, v.place, page.0, row.slot, row.length]
+    match n {
+        Ok(Some(row)) => [0, 0, row.page.0, row.slot, row.length],
+        Ok(None) => [0, 0, 0, 0, 0],
+        Err(e) => [e.refusal.number(), e.place, 0, 0, 0],
+    }
 }
 
 // A row of a summary by its number: number, place, page, slot, tuple length.
@@ -613,12 +622,10 @@ pub extern "C" fn lq_summary_row(file: &[u8], row: u64, out: &mut [u64])
 }
 
 // The numbers of a row at a place.
-fn step_numbers(s: SummaryStep) -> [u64; 4]
+fn summary_step_numbers(s: SummaryStep) -> [u64; 4]
     ensures { result ≡ summary_step_numbers s }
 {
-    let row = s.row;
-    let page = row.page;
-    [page.0, row.slot, row.length, s.after as u64]
+    [s.row.page.0, s.row.slot, s.row.length, s.after as u64]
 }
 
 // The row at a place of a summary: page, slot, tuple length and the place after it.
@@ -627,5 +634,5 @@ pub extern "C" fn lq_summary_step(file: &[u8], place: u64, out: &mut [u64])
     ensures { out.new ≡ given (summary_step_numbers (step_of file.now place)) out.old }
 {
     let s = summary::step(file, place as usize);
-    give(&step_numbers(s), out);
+    give(&summary_step_numbers(s), out);
 }

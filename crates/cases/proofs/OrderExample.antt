@@ -15,7 +15,7 @@ use Rattle.wal.specs.Entry.{Entry, Encodable, AllEncodable, encoded, encoded_all
 use Rattle.wal.specs.Walk.{entries, file_of}
 use Rattle.wal.proofs.Encoding.{entries-log, length-log}
 use Rattle.page.specs.Layout.{data_type, pages_in, page_at, type_of, slot_at}
-use Rattle.page.specs.Rows.{visible, row, at_or_after}
+use Rattle.page.specs.Rows.{visible, row}
 use Rattle.page.proofs.Goodness.{packed-bytes}
 use Rattle.rules.specs.Lent.{lent}
 use Rattle.rules.specs.Shape.{is_known, is_changing, is_image, same, is_keyed, is_bare, is_shaped, before_of, after_of, is_on, effect_on, top_on, same_slot}
@@ -24,7 +24,8 @@ use Rattle.rules.specs.Mend.{committed, changes, top_of, decided}
 use Rattle.rules.specs.Recover.{recover_of}
 use Rattle.history.specs.History.{Step, logged, Honest, start, ledger}
 use Rattle.history.specs.Demand3.{History, Stands, HasFelt}
-use Rattle.intake.specs.Orders.{mark_of, order_found}
+use Rattle.intake.specs.Orders.{mark_of}
+use Rattle.intake.proofs.Findings.{FoundBy}
 use Rattle.intake.proofs.Recovered.{order-kept}
 use Rattle.cases.specs.Build.{begins, commits, inserts, log_of, magic, page, area, tuple}
 use Rattle.cases.specs.Starred.{no_record}
@@ -135,8 +136,7 @@ lent-there = omega (arith, pages-in (page 0 [] ∷ []) (empty-ok, tt))
 data-there : type_of (page_at 0 before) ≡ data_type
 data-there = ap type_of (page-at (page 0 [] ∷ []) (empty-ok, tt) 0 (lit< tt)) ∙ type-of 0 _ empty-ok
 
-pub order-found : ((order_found magic recovered (mark_of (replicate 16 0))).found ≡ true)
-    × (at_or_after (order_found magic recovered (mark_of (replicate 16 0))).order.page.0 (order_found magic recovered (mark_of (replicate 16 0))).order.slot (row 0 0 (page_at 0 recovered)) ≡ true)
+pub order-found : FoundBy magic recovered (mark_of (replicate 16 0)) (row 0 0 (page_at 0 recovered))
 unfolding placed
 order-found =
     order-kept placed magic 0 (λ i. 0) before cut 0 (replicate 8 no_record) stands felt before-bytes (bytes-append header-bytes (all-bytes es encodable)) accepted 0 0 lent-there data-there (replicate 16 0)

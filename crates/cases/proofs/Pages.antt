@@ -20,7 +20,7 @@ use Rattle.page.specs.Packed.{packed, tab, room_for}
 use Rattle.refusals.specs.Verdict.{verdict, accepted, ◌then◌}
 use Rattle.page.specs.Fault.{fault_of, page_verdict, first_bad, size_wrong}
 use Rattle.refusals.specs.declared.Verdict.{Verdict}
-use Rattle.page.specs.declared.Fault.TheVariants.{Sound}
+use Rattle.std.specs.Prelude.{None}
 use Rattle.page.proofs.FaultLaws.{good-sound}
 use Rattle.rules.specs.Shape.{page_of as page_number}
 use Rattle.rules.specs.Order.{last_lsn, full_at, order_from, end_verdict, log_verdict}
@@ -97,7 +97,7 @@ module _ (floor : ℕ) (ps : List Page) (log : List ℕ) (es : List Entry) (T : 
     here : page_at i (area ps) ≡ page_of i p
     here = page-at ps x.pages i l
 
-    sound : fault_of magic i (page_at i (area ps)) ≡ Sound
+    sound : fault_of magic i (page_at i (area ps)) ≡ None
     sound = ap (fault_of magic i) here ∙ good-sound magic i (page_of i p) (good_of i p ok (omega (arith, x.few)))
 
     lsn-here : lsn_of (page_at i (area ps)) ≡ p.lsn

@@ -5,8 +5,7 @@ use Prim.Native.Nat.{ℕ}
 use mathlib.Core.List.{List, [], ◌∷◌, ◌++◌}
 use Rattle.refusals.specs.Verdict.{accepted}
 use Rattle.endian.specs.Numbers.{bytes_of, number_at, number_of}
-use Rattle.catalog.specs.TableRows.{part_at, refused_row, laid, row_by, row_of, older_row_of, row_bytes}
-use Rattle.catalog.specs.declared.TableRow.{TableRow}
+use Rattle.catalog.specs.TableRows.{RowAnswer, part_at, refused_row, laid, row_by, row_of, older_row_of, row_bytes}
 
 abbrev app : List ℕ
 app = 97 ∷ 112 ∷ 112 ∷ []
@@ -17,7 +16,7 @@ orders = 111 ∷ 114 ∷ 100 ∷ 101 ∷ 114 ∷ 115 ∷ []
 abbrev names : List ℕ
 names = (14 ∷ 0 ∷ 0 ∷ 0 ∷ 9 ∷ 0 ∷ 0 ∷ 0 ∷ 0 ∷ 0 ∷ 0 ∷ 0 ∷ 3 ∷ []) ++ app ++ (6 ∷ []) ++ orders
 
-abbrev orders-with : ℕ → ℕ → TableRow
+abbrev orders-with : ℕ → ℕ → RowAnswer
 orders-with layout version = record { verdict = accepted; table = 14; root = record { 0 = 9 }; schema = part_at 13 3; name = part_at 17 6; layout = layout; version = version }
 
 -- nothing behind the names: a heap, version 1; one layout byte: that layout, version 1; both readers say so

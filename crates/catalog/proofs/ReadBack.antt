@@ -14,9 +14,7 @@ use Rattle.endian.specs.Pick.{pick}
 use Rattle.endian.specs.Numbers.{part, bytes_of, number_at}
 use Rattle.endian.proofs.Numbers.{length-bytes_of, number-back}
 use Rattle.endian.proofs.Places.{part-append, number_same, number_append, number-byte}
-use Rattle.catalog.specs.TableRows.{table_of, root_of, schema_length, name_length, names_end, layout_of, part_at, refused_row, laid, row_by, newest_by, row_of, older_row_of, row_bytes, row_length, has_room, refused_writing, write_answer, area_after}
-use Rattle.catalog.specs.declared.TableRow.{TableRow}
-use Rattle.refusals.specs.declared.Written.{Written}
+use Rattle.catalog.specs.TableRows.{RowAnswer, WriteAnswer, table_of, root_of, schema_length, name_length, names_end, layout_of, part_at, refused_row, laid, row_by, newest_by, row_of, older_row_of, row_bytes, row_length, has_room, refused_writing, write_answer, area_after}
 use Rattle.catalog.proofs.Writing.{room-is, row_written}
 use Rattle.catalog.proofs.Forms.{laid_as, is-newest, newest-read}
 
@@ -27,7 +25,7 @@ pub older-same : (p : List ℕ) → (older_row_of p).verdict.number ≡ 0 → ro
 unfolding row_by
 older-same p = go (ltb (length p) (names_end p)) (eqb (length p - names_end p) 0) (eqb (length p - names_end p) 1) (eqb (length p - names_end p) 9) (laid p 0 1) (laid p (layout_of p) 1)
   where
-    go : (early none one nine : Bool) (plain lay : TableRow)
+    go : (early none one nine : Bool) (plain lay : RowAnswer)
         → (pick early (refused_row 34) (pick none plain (pick one lay (pick nine (newest_by false p) (refused_row 35))))).verdict.number ≡ 0
         → pick early (refused_row 34) (pick none plain (pick one lay (pick nine (newest_by true p) (refused_row 35))))
         ≡ pick early (refused_row 34) (pick none plain (pick one lay (pick nine (newest_by false p) (refused_row 35))))
@@ -163,7 +161,7 @@ module _ (table root : ℕ) (schema name : List ℕ) (layout version : ℕ) wher
           rw in_parts (sym (
           laid_as all (length schema) (length name) (sym schema-length) (sym name-length) layout version table root hl (sym table-back) (sym root-back)
           ∙ ap₂ (laid all) (sym layout-back) (sym version-back)
-          ∙ newest-read all (length schema) (length name) (sym schema-length) (sym name-length) (omega (arith, sizes)) nine true refl))
+          ∙ newest-read all (length schema) (length name) (sym schema-length) (sym name-length) (omega (arith, sizes)) nine))
 
   -- ---- what the writer left in an area
 
@@ -181,14 +179,14 @@ module _ (table root : ℕ) (schema name : List ℕ) (layout version : ℕ) wher
     -- its first bytes, as many as it says, are the row
     pub written-front : take (write_answer schema name layout area).length (area_after table root schema name layout version area) ≡ row_bytes table root schema name layout version
     written-front =
-        let e = row_written table root schema name layout version area (leb-true _ _ was-right.0) true (sym was-right.1) refl in
+        let e = row_written table root schema name layout version area was-right.0 was-right.1 in
         let n : length (row_bytes table root schema name layout version) ≡ row_length (length schema) (length name) = ap length in_parts ∙ sizes in
-        ap₂ take (sym (ap (λ (w : Written). w.length) e.0)) (sym e.1) ∙ take_at (row_bytes table root schema name layout version) _ _ n
+        ap₂ take (sym (ap (λ (w : WriteAnswer). w.length) e.0)) (sym e.1) ∙ take_at (row_bytes table root schema name layout version) _ _ n
 
     -- they read back as what was written
     pub written-reads : table < 256 ^ 4 → root < 256 ^ 8 → version < 256 ^ 8
         → row_of (take (write_answer schema name layout area).length (area_after table root schema name layout version area))
         ≡ record { verdict = accepted; table = table; root = record { 0 = root }; schema = part_at 13 (length schema); name = part_at (14 + length schema) (length name); layout = layout; version = version }
     written-reads ht hr hv =
-        let r = room-is (length schema) (length name) (length area) true (sym was-right.1) refl in
+        let r = room-is (length schema) (length name) (length area) was-right.1 in
         ap row_of written-front ∙ read_back ht hr r.0 r.1 (leb-true _ _ was-right.0) hv

@@ -1,22 +1,20 @@
 -- A row written store by store, and the whole answer.
 -- Assumes nothing.
-use mathlib.Core.Path.{◌≡◌, refl, sym, ap, ◌∙◌}
-use mathlib.Core.Bool.{Bool, true, false, not}
-use Prim.Native.Nat.{ℕ, ◌+◌, ◌≤◌, ◌<◌}
+use mathlib.Core.Path.{◌≡◌, refl, ap, ◌∙◌}
+use mathlib.Core.Bool.{true}
+use Prim.Native.Nat.{ℕ, ◌+◌, ◌≤◌}
 use native.Mathlib.Omega.{arith}
 use mathlib.Core.List.{List, ◌++◌}
 use lib.ListN.{length, drop, length-append}
 use lib.Seq.{paste, take_all}
 use lib.Dec.{leb}
-use borrow.Author.Tests.{lt-leb, le-leb, leb-true}
+use borrow.Author.Tests.{leb-true}
 use Rattle.refusals.specs.Verdict.{accepted}
-use Rattle.endian.specs.Pick.{pick}
 use Rattle.endian.specs.Numbers.{bytes_of}
 use Rattle.endian.proofs.Numbers.{length-bytes_of}
 use Rattle.endian.proofs.Stores.{first, more, number}
-use Rattle.page.proofs.Picks.{never}
-use Rattle.catalog.specs.TableRows.{name_bytes, row_bytes, row_length, has_room, refused_writing, write_answer, area_after}
-use Rattle.refusals.specs.declared.Written.{Written}
+use Rattle.page.proofs.Picks.{both}
+use Rattle.catalog.specs.TableRows.{name_bytes, row_bytes, row_length, has_room, write_answer, area_after}
 
 -- ---- stores
 
@@ -53,53 +51,19 @@ module _ (d schema name : List ℕ) (table root layout version : ℕ) (room : ro
 
 -- ---- room
 
-not-true : (r : Bool) → not r ≡ true → r ≡ false
-not-true false e = refl
-not-true true e = never e
-
-not-false : (r : Bool) → not r ≡ false → r ≡ true
-not-false true e = refl
-not-false false e = never (sym e)
-
-pub long-schema : (s n a : ℕ) → 255 < s → false ≡ has_room s n a
+pub room-is : (s n a : ℕ) → has_room s n a ≡ true → (s ≤ 255) × (n ≤ 255) × (row_length s n ≤ a)
 unfolding has_room
-long-schema s n a h = rw (lt-leb _ _ h)
-
-pub long-name : (s n a : ℕ) → s ≤ 255 → 255 < n → false ≡ has_room s n a
-unfolding has_room
-long-name s n a hs h = rw (le-leb _ _ hs, lt-leb _ _ h)
-
-pub by-area : (s n a : ℕ) → s ≤ 255 → n ≤ 255 → leb (row_length s n) a ≡ has_room s n a
-unfolding has_room
-by-area s n a hs hn = rw (le-leb _ _ hs, le-leb _ _ hn)
-
-pub room-is : (s n a : ℕ) (r : Bool) → r ≡ has_room s n a → not r ≡ false → (s ≤ 255) × (n ≤ 255) × (row_length s n ≤ a)
-unfolding has_room
-room-is s n a r er h = go (leb s 255) (leb n 255) (leb (row_length s n) a) refl refl refl (ap not (sym er) ∙ h)
-  where
-    go : (t u v : Bool) → leb s 255 ≡ t → leb n 255 ≡ u → leb (row_length s n) a ≡ v → not (pick t (pick u v false) false) ≡ false → (s ≤ 255) × (n ≤ 255) × (row_length s n ≤ a)
-    go true true true et eu ev e = (leb-true _ _ et, leb-true _ _ eu, leb-true _ _ ev)
-    go true true false et eu ev e = never (sym e)
-    go true false v et eu ev e = never (sym e)
-    go false u v et eu ev e = never (sym e)
+room-is s n a e =
+    let p = both (leb s 255) _ e in
+    let q = both (leb n 255) _ p.1 in
+    (leb-true _ _ p.0, leb-true _ _ q.0, leb-true _ _ q.1)
 
 -- ---- the whole answer
 
--- an answer and what the area then holds are the right ones
+-- what is answered of a row that was written, and what the area then holds
 module _ (table root : ℕ) (schema name : List ℕ) (layout version : ℕ) (area : List ℕ) where
-  abbrev pub Answers : Written → List ℕ → Type 0
-  Answers r after = (r ≡ write_answer schema name layout area) × (after ≡ area_after table root schema name layout version area)
-
-  pub other-layout : 1 < layout → Answers (refused_writing 36) area
+  pub row_written : leb layout 1 ≡ true → has_room (length schema) (length name) (length area) ≡ true
+      → (record { verdict = accepted; length = row_length (length schema) (length name) } ≡ write_answer schema name layout area)
+      × (row_bytes table root schema name layout version ++ drop (row_length (length schema) (length name)) area ≡ area_after table root schema name layout version area)
   unfolding write_answer area_after
-  other-layout h = let e = lt-leb _ _ h in (rw e, rw e)
-
-  module _ (l : layout ≤ 1) (r : Bool) (er : r ≡ has_room (length schema) (length name) (length area)) where
-    pub no_room : not r ≡ true → Answers (refused_writing 37) area
-    unfolding write_answer area_after
-    no_room h = let e = le-leb _ _ l in let z : has_room (length schema) (length name) (length area) ≡ false = sym er ∙ not-true r h in (rw (e, z), rw (e, z))
-
-    pub row_written : not r ≡ false
-        → Answers (record { verdict = accepted; length = row_length (length schema) (length name) }) (row_bytes table root schema name layout version ++ drop (row_length (length schema) (length name)) area)
-    unfolding write_answer area_after
-    row_written h = let e = le-leb _ _ l in let z : has_room (length schema) (length name) (length area) ≡ true = sym er ∙ not-false r h in (rw (e, z), rw (e, z))
+  row_written l r = (rw (l, r), rw (l, r))

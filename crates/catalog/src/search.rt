@@ -6,7 +6,7 @@ ghost use Rattle.catalog.specs.Search.{names_table};
 
 use crate::read;
 use page::inner::next_row;
-use page::{NextRow, ROW_HEAD_BYTES, Row};
+use page::{ROW_HEAD_BYTES, Row};
 
 // Whether a row's payload reads, and has the table id.
 fn names_table(pages: &[u8], row: Row, table: u32) -> bool
@@ -15,27 +15,23 @@ fn names_table(pages: &[u8], row: Row, table: u32) -> bool
 {
     let from = row.offset + ROW_HEAD_BYTES;
     let to = row.offset + row.length;
-    let found = read(&pages[from..to]);
-    if found.verdict.number != 0 {
-        return false;
+    match read(&pages[from..to]) {
+        Ok(found) => found.table == table,
+        Err(_) => false,
     }
-    found.table == table
 }
 
-// The first visible row that names the table.
-pub fn find(pages: &[u8], table: u32) -> NextRow
+// The first visible row that names the table. A step goes on behind the row that was met, so there is no index to count.
+pub fn find(pages: &[u8], table: u32) -> Option<Row>
     requires { Listable pages.now }
     ensures { result ≡ first_with (names_table table pages.now) (visible_rows pages.now) }
 {
     let mut i: usize = 0;
     let mut k: usize = 0;
     loop {
-        let next = next_row(pages, i, k);
-        let NextRow::At(row) = next else {
-            return NextRow::NoMore;
-        };
+        let row = next_row(pages, i, k)?;
         if names_table(pages, row, table) {
-            return next;
+            return Some(row);
         }
         i = row.page.0 as usize;
         k = row.slot + 1;

@@ -4,10 +4,9 @@
 
 ghost use Rattle.std.specs.Prelude.{◌≡◌, ◌≤◌, ◌<◌, length};
 
-use catalog::TableRow;
+use catalog::{Layout, Part, TableRow};
 use endian::PageNumber;
-use page::NextRow;
-use refusals::Written;
+use refusals::Refused;
 use std::io;
 
 const MAGIC: u64 = 0x0123_4567_89AB_CDEF;
@@ -19,28 +18,45 @@ fn payload(table: u32, layout: u16) -> [u8; 34]
     requires { layout < 256 }
 {
     let mut b = [7u8; 34];
-    catalog::write(table, PageNumber(9), b"app", b"orders", 0, 258, &mut b);
+    let _ = catalog::write(table, PageNumber(9), b"app", b"orders", 0, 258, &mut b);
     endian::put_u16(&mut b, 23, layout + 512);
     b
 }
 
+// The refusal's number and place; 0 at 0 for none.
+fn verdict<T>(rt: &impl Print, r: &Result<T, Refused>) -> io::Result<()> {
+    match r {
+        Ok(_) => print!(rt; " 0 at 0"),
+        Err(e) => print!(rt; " {} at {}", e.refusal.number(), e.place),
+    }
+}
+
+// What is shown where a row is refused.
+const NO_ROW: TableRow = TableRow {
+    table: 0,
+    root: PageNumber(0),
+    schema: Part { at: 0, length: 0 },
+    name: Part { at: 0, length: 0 },
+    layout: Layout::Heap,
+    version: 0,
+};
+
 // What a reader says.
-fn show(rt: &impl Print, r: TableRow) -> io::Result<()> {
-    let v = r.verdict;
-    let schema = r.schema;
-    let name = r.name;
+fn show(rt: &impl Print, r: Result<TableRow, Refused>) -> io::Result<()> {
+    verdict(rt, &r)?;
+    let row = r.unwrap_or(NO_ROW);
+    let schema = row.schema;
+    let name = row.name;
     println!(rt;
-        " {} at {} table {} root {} schema {} {} name {} {} layout {} version {}",
-        v.number,
-        v.place,
-        r.table,
-        r.root.0,
+        " table {} root {} schema {} {} name {} {} layout {} version {}",
+        row.table,
+        row.root.0,
         schema.at,
         schema.length,
         name.at,
         name.length,
-        r.layout,
-        r.version
+        row.layout.number(),
+        row.version
     )
 }
 
@@ -105,11 +121,6 @@ fn read_cases(rt: &impl Print) -> io::Result<()> {
 
 // ---- written
 
-fn show_written(rt: &impl Print, w: Written) -> io::Result<()> {
-    let v = w.verdict;
-    print!(rt; ": {} at {}, length {}", v.number, v.place, w.length)
-}
-
 // What writing answers, the two bytes behind what it wrote, and what is read back.
 fn written(
     rt: &impl Print,
@@ -119,16 +130,21 @@ fn written(
     area: &mut [u8],
 ) -> io::Result<()> {
     let most = 18446744073709551615;
-    let w = catalog::write(14, PageNumber(most), schema, name, layout, most, area);
+    let written = catalog::write(14, PageNumber(most), schema, name, layout, most, area);
     print!(rt;
         "names of {} and {}, layout {layout}, area {}",
         schema.len(),
         name.len(),
         area.len()
     )?;
-    show_written(rt, w)?;
-    println!(rt; ", behind it {:04x}", endian::u16_at(area, w.length))?;
-    cut(rt, area, w.length)
+    print!(rt; ":")?;
+    verdict(rt, &written)?;
+    let length = written.unwrap_or(0);
+    println!(rt;
+        ", length {length}, behind it {:04x}",
+        endian::u16_at(area, length)
+    )?;
+    cut(rt, area, length)
 }
 
 // The shortest row; 36; and 37 for an area one byte too short.
@@ -230,14 +246,13 @@ fn area() -> [u8; 49152] {
 
 fn find(rt: &impl Print, pages: &[u8], table: u32) -> io::Result<()> {
     print!(rt; "table {table}")?;
-    let found = catalog::find_table(MAGIC, pages, table);
-    match found {
-        NextRow::Refused(v) => println!(rt; ": refused by {} at {}", v.number, v.place),
-        NextRow::At(w) => println!(rt;
+    match catalog::find_table(MAGIC, pages, table) {
+        Err(e) => println!(rt; ": refused by {} at {}", e.refusal.number(), e.place),
+        Ok(Some(w)) => println!(rt;
             ": page {}, slot {}, length {}, at {}",
             w.page.0, w.slot, w.length, w.offset
         ),
-        NextRow::NoMore => println!(rt; ": none"),
+        Ok(None) => println!(rt; ": none"),
     }
 }
 

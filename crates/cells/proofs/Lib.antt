@@ -1,4 +1,3 @@
-pub mod Blank
 pub mod CellLaws
 pub mod Keys
 pub mod Listing

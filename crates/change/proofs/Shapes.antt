@@ -8,6 +8,8 @@ use native.Mathlib.Decide.{ℕ_discrete}
 use lib.ListN.{length, get_or, take, drop}
 use lib.Seq.{drop-drop, take-take, take-add}
 use lib.Dec.{leb, eqb, eqb-suc-zero}
+use lib.Pointwise.{pointwise}
+use Rattle.std.proofs.Common.{◌&&◌}
 use borrow.Author.Tests.{eqb-true, eq-eqb, ne_eqb, lt-leb, le-leb}
 use Rattle.endian.specs.Numbers.{part, number_of, number_at, Bytes}
 use Rattle.endian.proofs.Places.{part-take, part-drop, drop-part}
@@ -22,24 +24,7 @@ use Rattle.page.proofs.Reading.{deleted-in}
 use Rattle.rules.specs.Shape.{both, is_image, is_none, is_keyed, is_bare, is_shaped, same}
 use Rattle.rules.proofs.Tests.{false-true, both_true}
 
-pub not-false : (a : Bool) → not a ≡ false → a ≡ true
-not-false true h = refl
-not-false false h = sym h
-
 -- ---- equal bytes
-
--- a list of bytes is told by its number and its length
-pub number-tells : (l m : List ℕ) → Bytes l → Bytes m → length l ≡ length m → number_of l ≡ number_of m → l ≡ m
-unfolding number_of
-number-tells [] [] h k e q = refl
-number-tells [] (y ∷ m) h k e q = absurd (omega arith)
-number-tells (x ∷ l) [] h k e q = absurd (omega arith)
-number-tells (x ∷ l) (y ∷ m) h k e q =
-    let a : x < 256 = h.at 0 in
-    let b : y < 256 = k.at 0 in
-    let front : x ≡ y = omega arith in
-    let rest : number_of l ≡ number_of m = omega arith in
-    ap₂ (λ (z : ℕ) (n : List ℕ). z ∷ n) front (number-tells l m (bytes_drop 1 h) (bytes_drop 1 k) (omega arith) rest)
 
 pub same_refl : (l : List ℕ) → same l l ≡ true
 unfolding same
@@ -62,42 +47,17 @@ same_false l m n = go (same l m) refl
     go true q = absurd (n (same_true l m q))
     go false q = refl
 
-bytes-part : (a n : ℕ) {s : List ℕ} → Bytes s → Bytes (part a n s)
-bytes-part a n h = bytes_take n (bytes_drop a h)
-
-part-ten : (a : ℕ) (s : List ℕ) → part a 10 s ≡ part a 8 s ++ part (a + 8) 2 s
-part-ten a s = take-add 8 2 (drop a s) ∙ ap (λ (l : List ℕ). part a 8 s ++ take 2 l) (drop-drop 8 a s)
-
--- ten bytes are the same if a number of eight and one of two are
-module _ (s : List ℕ) (bytes : Bytes s) (a b : ℕ) (ra : a + 10 ≤ length s) (rb : b + 10 ≤ length s) where
-  eight : number_at 8 a s ≡ number_at 8 b s → part a 8 s ≡ part b 8 s
-  unfolding number_at
-  eight e = number-tells (part a 8 s) (part b 8 s) (bytes-part a 8 bytes) (bytes-part b 8 bytes) (part_length s a 8 (omega arith) ∙ sym (part_length s b 8 (omega arith))) e
-
-  two : number_at 2 (a + 8) s ≡ number_at 2 (b + 8) s → part (a + 8) 2 s ≡ part (b + 8) 2 s
-  unfolding number_at
-  two e = number-tells (part (a + 8) 2 s) (part (b + 8) 2 s) (bytes-part (a + 8) 2 bytes) (bytes-part (b + 8) 2 bytes) (part_length s (a + 8) 2 (omega arith) ∙ sym (part_length s (b + 8) 2 (omega arith))) e
-
-  same-ten : number_at 8 a s ≡ number_at 8 b s → number_at 2 (a + 8) s ≡ number_at 2 (b + 8) s → same (part a 10 s) (part b 10 s) ≡ true
-  same-ten e f = rw (part-ten a s, part-ten b s, eight e, two f) (same_refl (part b 8 s ++ part (b + 8) 2 s))
-
-  pub other-eight : (number_at 8 a s ≡ number_at 8 b s → ⊥) → same (part a 10 s) (part b 10 s) ≡ false
-  unfolding number_at
-  other-eight n = same_false _ _ (λ q. n (ap number_of (sym (part-take 0 8 10 (drop a s) (omega arith)) ∙ ap (take 8) q ∙ part-take 0 8 10 (drop b s) (omega arith))))
-
-  other-two : (number_at 2 (a + 8) s ≡ number_at 2 (b + 8) s → ⊥) → same (part a 10 s) (part b 10 s) ≡ false
-  unfolding number_at
-  other-two n = same_false _ _ (λ q. n (ap number_of (at a ∙ ap (λ (l : List ℕ). take 2 (drop 8 l)) q ∙ sym (at b))))
-    where
-      at : (c : ℕ) → part (c + 8) 2 s ≡ take 2 (drop 8 (part c 10 s))
-      at c = sym (part-take 8 2 10 (drop c s) (omega arith) ∙ part-drop 8 2 c s)
-
-  pub ten-is : number_at 8 a s ≡ number_at 8 b s → eqb (number_at 2 (a + 8) s) (number_at 2 (b + 8) s) ≡ same (part a 10 s) (part b 10 s)
-  ten-is e =
-      elim (ℕ_discrete (number_at 2 (a + 8) s) (number_at 2 (b + 8) s)) [
-        | yes q ↦ eq-eqb _ _ q ∙ sym (same-ten e q)
-        | no n ↦ ne_eqb _ _ n ∙ sym (other-two n)
-      ]
+-- `==` on slices, as the rules say it
+pub pointwise-same : (l m : List ℕ) → pointwise eqb l m ≡ same l m
+unfolding same
+pointwise-same [] [] = refl
+pointwise-same [] (y ∷ m) = refl
+pointwise-same (x ∷ l) [] = refl
+pointwise-same (x ∷ l) (y ∷ m) = go (eqb x y) (pointwise-same l m)
+  where
+    go : (b : Bool) {u v : Bool} → u ≡ v → b && u ≡ both b v
+    go true e = e
+    go false e = refl
 
 -- ---- tuple images
 
@@ -135,15 +95,14 @@ module _ (s : List ℕ) (a n : ℕ) (room : a + n ≤ length s) where
       let f : take 10 (part a n s) ≡ part a 10 s = take-take 10 n (drop a s) h in
       rw (f, drop-part 10 a n s h)
 
--- an update's two values
-module _ (s : List ℕ) (key k a o : ℕ) (e : k ≡ 10) where
-  pub old-unkeyed : (y : List ℕ) → is_keyed (part key 10 s) (part a o s) ≡ false
-      → false ≡ both (eqb k 10) (both (is_keyed (part key k s) (part a o s)) (is_keyed (part key k s) y))
-  old-unkeyed y f = rw (e, f)
-
-  pub old-keyed : (y : List ℕ) {x : Bool} → is_keyed (part key 10 s) (part a o s) ≡ true → x ≡ is_keyed (part key 10 s) y
-      → x ≡ both (eqb k 10) (both (is_keyed (part key k s) (part a o s)) (is_keyed (part key k s) y))
-  old-keyed y f h = h ∙ rw (e, f)
+  -- as code compares the two keys
+  pub keyed-by : (k : ℕ) {b : Bool} → 10 ≤ n → b ≡ pointwise eqb (take (a + 10 - a) (drop a s)) (take (k + 10 - k) (drop k s))
+      → is_keyed (part k 10 s) (part a n s) ≡ both b (is_image (part (a + 10) (n - 10) s))
+  keyed-by k {b} h e =
+      let p : a + 10 - a ≡ 10 = omega arith in
+      let q : k + 10 - k ≡ 10 = omega arith in
+      let f : b ≡ same (part a 10 s) (part k 10 s) = e ∙ rw (p, q) (pointwise-same (part a 10 s) (part k 10 s)) in
+      keyed-is k h ∙ ap (λ (x : Bool). both x (is_image (part (a + 10) (n - 10) s))) (sym f)
 
 -- ---- the entry v at p
 

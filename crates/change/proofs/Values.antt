@@ -4,6 +4,12 @@ use mathlib.Core.Path.{◌≡◌, refl, sym, ap, subst, ◌∙◌}
 use mathlib.Core.Bool.{true}
 use mathlib.Core.List.{List, []}
 use native.Mathlib.Omega.{arith}
+use Rattle.std.specs.Prelude.{Option, Some, None}
+use Rattle.wal.specs.Kind.{kind_number, kind_of}
+use Rattle.wal.specs.declared.Kind.{Kind}
+use Rattle.wal.specs.declared.Kind.TheVariants.{Begin, Commit, Rollback, Insert, Delete, Checkpoint, Update}
+use Rattle.wal.proofs.KindLaws.{kind-number, kind-of}
+use Rattle.change.proofs.ByKind.{by_kind}
 use lib.ListN.{length, take, drop, length-drop}
 use lib.Dec.{eqb}
 use borrow.Author.Tests.{eqb-true, ne_eqb}
@@ -181,10 +187,10 @@ module _ {s : List ℕ} {at : ℕ} (c : ChangeAt s at) {v : EntryView} (e : v �
       let i = removed there fine n in
       to before_of before_at (in-log (at + 41) v.old_len i.room (omega (arith, i.short)) em (before-removed there fine n)) (logged-at em (before-removed-at there fine n))
 
-  pub after-delete : {m : Image} → v.kind ≡ delete → m ≡ deleted (at + 41) v.old_len v.txn.0 → InLog s m (after_of (said s at)) × LoggedAt m (after_at (entry_in s at))
+  pub after-delete : {m : Image} → v.kind ≡ delete → m ≡ deleted (at + 41) v.old_len v.txn → InLog s m (after_of (said s at)) × LoggedAt m (after_at (entry_in s at))
   after-delete n em =
       let i = removed there fine n in
-      to after_of after_at (in-log-deleted (at + 41) v.old_len i.room (omega (arith, i.short)) v.txn.0 i.long em (after-removed there fine n))
+      to after_of after_at (in-log-deleted (at + 41) v.old_len i.room (omega (arith, i.short)) v.txn i.long em (after-removed there fine n))
       (rw em (record { logged = refl; at = after-removed-at there fine n }))
 
   -- what is neither is an Update
@@ -207,3 +213,59 @@ module _ {s : List ℕ} {at : ℕ} (c : ChangeAt s at) {v : EntryView} (e : v �
         let u = updated there fine kind-is in
         to after_of after_at (in-log (at + 55 + v.old_len) (v.new_len - 10) (omega (arith, u.room, u.new-long)) (omega (arith, u.new-short)) em (after-updated there fine kind-is))
         (logged-at em (after-updated-at there fine kind-is))
+
+  -- by the type of the entry, as code tells types apart: any but an Insert and a Delete is an Update
+  abbrev by_type : {A : Type 0} → A → A → A → Option Kind → A
+  by_type i d u = by_kind i d u u u
+
+  not-of : (k : Option Kind) (j : Kind) → kind_of v.kind ≡ k → (k ≡ Some j → ⊥) → v.kind ≡ kind_number j → ⊥
+  not-of k j e n q = n (sym e ∙ ap kind_of q ∙ kind-number j)
+
+  before-by : {m : Image} (k : Option Kind) → kind_of v.kind ≡ k → m ≡ by_type (logged (at + 41) 0) (logged (at + 41) v.old_len) (logged (at + 51) (v.old_len - 10)) k
+      → InLog s m (before_of (said s at)) × LoggedAt m (before_at (entry_in s at))
+  before-by (Some Begin) f em = before-update (not-of _ Insert f (λ q. cc)) (not-of _ Delete f (λ q. cc)) em
+  before-by (Some Commit) f em = before-update (not-of _ Insert f (λ q. cc)) (not-of _ Delete f (λ q. cc)) em
+  before-by (Some Rollback) f em = before-update (not-of _ Insert f (λ q. cc)) (not-of _ Delete f (λ q. cc)) em
+  before-by (Some Insert) f em = before-insert (kind-of _ f) em
+  before-by (Some Delete) f em = before-delete (kind-of _ f) em
+  before-by (Some Checkpoint) f em = before-update (not-of _ Insert f (λ q. cc)) (not-of _ Delete f (λ q. cc)) em
+  before-by (Some Update) f em = before-update (not-of _ Insert f (λ q. cc)) (not-of _ Delete f (λ q. cc)) em
+  before-by None f em = before-update (not-of _ Insert f (λ q. cc)) (not-of _ Delete f (λ q. cc)) em
+
+  after-by : {m : Image} (k : Option Kind) → kind_of v.kind ≡ k → m ≡ by_type (logged (at + 45) v.new_len) (deleted (at + 41) v.old_len v.txn) (logged (at + 55 + v.old_len) (v.new_len - 10)) k
+      → InLog s m (after_of (said s at)) × LoggedAt m (after_at (entry_in s at))
+  after-by (Some Begin) f em = after-update (not-of _ Insert f (λ q. cc)) (not-of _ Delete f (λ q. cc)) em
+  after-by (Some Commit) f em = after-update (not-of _ Insert f (λ q. cc)) (not-of _ Delete f (λ q. cc)) em
+  after-by (Some Rollback) f em = after-update (not-of _ Insert f (λ q. cc)) (not-of _ Delete f (λ q. cc)) em
+  after-by (Some Insert) f em = after-insert (kind-of _ f) em
+  after-by (Some Delete) f em = after-delete (kind-of _ f) em
+  after-by (Some Checkpoint) f em = after-update (not-of _ Insert f (λ q. cc)) (not-of _ Delete f (λ q. cc)) em
+  after-by (Some Update) f em = after-update (not-of _ Insert f (λ q. cc)) (not-of _ Delete f (λ q. cc)) em
+  after-by None f em = after-update (not-of _ Insert f (λ q. cc)) (not-of _ Delete f (λ q. cc)) em
+
+  lengths-by : (k : Option Kind) → kind_of v.kind ≡ k → (10 ≤ by_type 10 10 v.old_len k) × (10 ≤ by_type 10 10 v.new_len k) × (at + by_type 0 0 (45 + v.old_len + v.new_len) k ≤ length s)
+  lengths-by (Some Begin) f = let u = update-lengths (not-of _ Insert f (λ q. cc)) (not-of _ Delete f (λ q. cc)) in omega arith
+  lengths-by (Some Commit) f = let u = update-lengths (not-of _ Insert f (λ q. cc)) (not-of _ Delete f (λ q. cc)) in omega arith
+  lengths-by (Some Rollback) f = let u = update-lengths (not-of _ Insert f (λ q. cc)) (not-of _ Delete f (λ q. cc)) in omega arith
+  lengths-by (Some Insert) f = omega (arith, place-low)
+  lengths-by (Some Delete) f = omega (arith, place-low)
+  lengths-by (Some Checkpoint) f = let u = update-lengths (not-of _ Insert f (λ q. cc)) (not-of _ Delete f (λ q. cc)) in omega arith
+  lengths-by (Some Update) f = let u = update-lengths (not-of _ Insert f (λ q. cc)) (not-of _ Delete f (λ q. cc)) in omega arith
+  lengths-by None f = let u = update-lengths (not-of _ Insert f (λ q. cc)) (not-of _ Delete f (λ q. cc)) in omega arith
+
+  pub old_by_kind : 10 ≤ by_kind 10 10 v.old_len v.old_len v.old_len (kind_of v.kind)
+  old_by_kind = (lengths-by (kind_of v.kind) refl).0
+
+  pub new_by_kind : 10 ≤ by_kind 10 10 v.new_len v.new_len v.new_len (kind_of v.kind)
+  new_by_kind = (lengths-by (kind_of v.kind) refl).1
+
+  pub room_by_kind : at + by_kind 0 0 (45 + v.old_len + v.new_len) (45 + v.old_len + v.new_len) (45 + v.old_len + v.new_len) (kind_of v.kind) ≤ length s
+  room_by_kind = (lengths-by (kind_of v.kind) refl).2
+
+  pub before_by_kind : {m : Image} → m ≡ by_kind (logged (at + 41) 0) (logged (at + 41) v.old_len) (logged (at + 51) (v.old_len - 10)) (logged (at + 51) (v.old_len - 10)) (logged (at + 51) (v.old_len - 10)) (kind_of v.kind)
+      → InLog s m (before_of (said s at)) × LoggedAt m (before_at (entry_in s at))
+  before_by_kind em = before-by (kind_of v.kind) refl em
+
+  pub after_by_kind : {m : Image} → m ≡ by_kind (logged (at + 45) v.new_len) (deleted (at + 41) v.old_len v.txn) (logged (at + 55 + v.old_len) (v.new_len - 10)) (logged (at + 55 + v.old_len) (v.new_len - 10)) (logged (at + 55 + v.old_len) (v.new_len - 10)) (kind_of v.kind)
+      → InLog s m (after_of (said s at)) × LoggedAt m (after_at (entry_in s at))
+  after_by_kind em = after-by (kind_of v.kind) refl em

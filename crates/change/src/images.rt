@@ -6,8 +6,9 @@ ghost use Rattle.rules.specs.Row.{before_at, after_at};
 ghost use Rattle.change.specs.Places.{ChangeAt};
 ghost use Rattle.change.specs.Tuples.{logged, deleted, InLog, LoggedAt};
 
-use crate::{DELETE, INSERT, Image};
+use crate::{Image, Source};
 use endian::TxnNumber;
+use wal::Kind;
 use wal::inner::standing;
 
 // n bytes of the log from a place on.
@@ -15,24 +16,22 @@ fn in_log(place: usize, n: usize) -> Image
     ensures { result ≡ logged place n }
 {
     Image {
-        logged: true,
+        source: Source::Log,
         place: place,
         length: n,
-        stamped: false,
-        by: TxnNumber(0),
+        deleted_by: None,
     }
 }
 
 // n bytes of the log from a place on, deleted by a transaction.
 fn in_log_deleted(place: usize, n: usize, by: TxnNumber) -> Image
-    ensures { result ≡ deleted place n by.0 }
+    ensures { result ≡ deleted place n by }
 {
     Image {
-        logged: true,
+        source: Source::Log,
         place: place,
         length: n,
-        stamped: true,
-        by: by,
+        deleted_by: Some(by),
     }
 }
 
@@ -43,13 +42,11 @@ pub fn before_image(log: &[u8], at: usize) -> Image
     ensures logged_at { LoggedAt result (before_at (entry_in log.now at)) }
 {
     let e = standing(log, at);
-    if e.kind == INSERT {
-        return in_log(at + 41, 0);
+    match Kind::of(e.kind) {
+        Some(Kind::Insert) => in_log(at + 41, 0),
+        Some(Kind::Delete) => in_log(at + 41, e.old_len),
+        _ => in_log(at + 51, e.old_len - 10),
     }
-    if e.kind == DELETE {
-        return in_log(at + 41, e.old_len);
-    }
-    in_log(at + 51, e.old_len - 10)
 }
 
 // The after-image of the change at a place.
@@ -59,12 +56,9 @@ pub fn after_image(log: &[u8], at: usize) -> Image
     ensures logged_at { LoggedAt result (after_at (entry_in log.now at)) }
 {
     let e = standing(log, at);
-    if e.kind == INSERT {
-        return in_log(at + 45, e.new_len);
+    match Kind::of(e.kind) {
+        Some(Kind::Insert) => in_log(at + 45, e.new_len),
+        Some(Kind::Delete) => in_log_deleted(at + 41, e.old_len, e.txn),
+        _ => in_log(at + 55 + e.old_len, e.new_len - 10),
     }
-    if e.kind == DELETE {
-        let by = e.txn;
-        return in_log_deleted(at + 41, e.old_len, by);
-    }
-    in_log(at + 55 + e.old_len, e.new_len - 10)
 }

@@ -6,22 +6,20 @@ ghost use Rattle.rules.specs.Shape.{is_changing, page_of};
 ghost use Rattle.change.specs.Places.{ChangeAt, slots_of, top_slot};
 ghost use Rattle.change.specs.Bits.{number_for, bit_of, with_bit};
 
-use crate::{DELETE, INSERT, KEY_AT, SHORTEST_CHANGE, SLOT_AT, UPDATE};
+use crate::{KEY_AT, SHORTEST_CHANGE, SLOT_AT};
 use endian::inner::{u16_at, u64_at};
 use endian::{Lsn, PageNumber};
-use wal::FIRST;
+use wal::{FIRST, Kind};
 
 // Whether an entry of this type is a change.
+#[tactic(auto, using(crate::proofs::ByKind::changing_by_kind))]
 pub fn is_change(kind: u8) -> bool
     ensures { result ≡ is_changing kind }
 {
-    if kind == INSERT {
-        return true;
-    }
-    if kind == DELETE {
-        return true;
-    }
-    kind == UPDATE
+    matches!(
+        Kind::of(kind),
+        Some(Kind::Insert | Kind::Delete | Kind::Update)
+    )
 }
 
 // The LSN of the entry at place.

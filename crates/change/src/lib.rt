@@ -7,15 +7,6 @@ pub mod images;
 pub mod inner;
 pub mod shape;
 
-// The types of changes, and that of a Checkpoint.
-pub const INSERT: u8 = 4;
-
-pub const DELETE: u8 = 5;
-
-pub const UPDATE: u8 = 10;
-
-pub const CHECKPOINT: u8 = 7;
-
 // A key is a page number and a slot number; where it stands behind the start of its entry, and its slot number there.
 pub const KEY_BYTES: usize = 10;
 
@@ -26,12 +17,18 @@ pub const SLOT_AT: usize = 35;
 // A change has at least so many bytes: the fixed parts, a key and an image.
 pub const SHORTEST_CHANGE: usize = 77;
 
+// What the bytes of an image are part of.
+#[derive(Clone, Copy, PartialEq, Eq)]
+pub enum Source {
+    Log,
+    Page,
+}
+
 // A tuple as it stands in the log, or else in a page: place, length, and, for one that is deleted, by which transaction.
 #[derive(Clone, Copy)]
 pub struct Image {
-    pub logged: bool,
+    pub source: Source,
     pub place: usize,
     pub length: usize,
-    pub stamped: bool,
-    pub by: TxnNumber,
+    pub deleted_by: Option<TxnNumber>,
 }

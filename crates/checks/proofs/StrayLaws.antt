@@ -7,8 +7,8 @@ use native.Mathlib.Decide.{dec_lt}
 use native.Mathlib.Numerals.{add-one}
 use native.Mathlib.Omega.{arith}
 use lib.ListN.{get_or}
-use lib.Dec.{ltb, leb, eqb}
-use borrow.Author.Tests.{lt-ltb, le-ltb, le-leb, lt-leb, eqb-true}
+use lib.Dec.{leb, eqb}
+use borrow.Author.Tests.{le-leb, lt-leb, eqb-true}
 use Rattle.endian.specs.Pick.{pick}
 use Rattle.wal.specs.Entry.{Entry, size_of}
 use Rattle.wal.specs.Read.{first, length_at, view}
@@ -18,7 +18,6 @@ use Rattle.wal.proofs.Places.{size-of}
 use Rattle.wal.proofs.Prefix.{stands_at, before-end, onward-first, onward-next, onward-end}
 use Rattle.page.specs.Layout.{page_bytes, data_type, pages_in}
 use Rattle.refusals.specs.Verdict.{verdict, accepted}
-use Rattle.refusals.specs.declared.Verdict.{Verdict}
 use Rattle.page.proofs.Reading.{type_at}
 use Rattle.rules.specs.Shape.{both, is_change, is_on, page_of, slot_of, top_on}
 use Rattle.rules.specs.Order.{any}
@@ -66,13 +65,6 @@ module _ (pages s : List ℕ) where
   pub stray-end : (at : ℕ) → at ≡ end_of s → stray_from pages (onward s at) at ≡ accepted
   unfolding stray_from
   stray-end at e = rw (e, onward-end s)
-
--- where the walk stops
-pub stray-found : {v : Verdict} (at end : ℕ) → at < end → v ≡ verdict 13 at → v ≡ pick (ltb at end) (verdict 13 at) accepted
-stray-found at end h e = e ∙ sym (rw (lt-ltb at end h))
-
-pub stray-none : {v : Verdict} (end : ℕ) → v ≡ accepted → v ≡ pick (ltb end end) (verdict 13 end) accepted
-stray-none end e = e ∙ sym (rw (le-ltb end end (omega arith)))
 
 -- ---- where no change is refused
 

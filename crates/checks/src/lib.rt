@@ -5,7 +5,7 @@ use order::Walked;
 
 pub mod inner;
 
-// What the walks over a log found: its first refusal or its end, and, accepted, the place of the first change beyond the lent pages, or the end.
+// What the walks over an accepted log found: its end and its last LSN, and the place of the first change beyond the lent pages, or the end.
 #[derive(Clone, Copy)]
 pub struct Found {
     pub walked: Walked,

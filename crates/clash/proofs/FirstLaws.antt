@@ -1,7 +1,7 @@
 -- The first clash of a group by a walk, of all groups, and the verdict on clashes. Assumes nothing.
 use Prim.Native.Nat.{ℕ, ◌+◌, ◌≤◌, ◌<◌}
 use mathlib.Core.Path.{◌≡◌, sym, ap, ◌∙◌, subst}
-use mathlib.Core.Bool.{Bool, true, false}
+use mathlib.Core.Bool.{Bool, false}
 use mathlib.Core.List.{List}
 use native.Mathlib.Omega.{arith}
 use native.Mathlib.Decide.{dec_lt, ℕ_discrete}
@@ -9,9 +9,8 @@ use lib.ListN.{replicate}
 use Rattle.wal.specs.Read.{length_at}
 use Rattle.wal.specs.Prefix.{Met, Stands, said}
 use Rattle.wal.proofs.Prefix.{met-first, met_next, met-from, met-below, Below}
-use Rattle.rules.proofs.Tests.{both_true}
 use Rattle.clash.specs.Open.{Opens}
-use Rattle.clash.specs.First.{is_in, clash_in, FirstIn}
+use Rattle.clash.specs.First.{clash_in}
 use Rattle.clash.specs.Group.{Group, cell_for, noted}
 use Rattle.clash.proofs.OpenLaws.{opens-first}
 use Rattle.clash.proofs.GroupLaws.{next-group}
@@ -43,22 +42,12 @@ pub sweeping-first : {s : List ℕ} {limit : ℕ} (lo hi : ℕ) → Met s limit 
 sweeping-first {s} lo hi m = record { met = met-first s; up_to = met-from s m; told = opens-first s; clean = clean-first lo hi s }
 
 module _ {s opens : List ℕ} {limit lo hi at : ℕ} (k : Sweeping s opens limit lo hi at) (end : Met s limit) where
-  -- at the limit there was none
-  pub none_found : limit ≤ at → FirstIn lo hi s limit limit
-  none_found h =
-      let z : at ≡ limit = omega (arith, k.up_to) in
-      record { met = end; low = omega arith; none = λ p m l. k.clean.none p m (omega arith); some = λ l. absurd (omega arith) }
-
   module _ (h : at < limit) where
     here : Below s at limit
     here = met-below s k.met end h
 
     pub sweeping-stands : Stands s at
     sweeping-stands = here.stands
-
-    -- a clash
-    pub one_found : clash_in lo hi s at ≡ true → FirstIn lo hi s limit at
-    one_found c = record { met = k.met; low = k.up_to; none = k.clean.none; some = λ l. (both_true (is_in lo hi (said s at)) _ c).1 }
 
     -- an entry more
     pub sweeping-next : (opens2 : List ℕ) (next : ℕ) → clash_in lo hi s at ≡ false → next ≡ at + length_at s at → Opens s (at + length_at s at) opens2 → Sweeping s opens2 limit lo hi next

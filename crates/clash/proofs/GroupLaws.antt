@@ -7,8 +7,10 @@ use native.Mathlib.Omega.{arith}
 use native.Mathlib.Decide.{dec_lt, ℕ_discrete}
 use lib.ListN.{length, get_or}
 use lib.Seq.{paste, length-paste}
-use lib.Dec.{leb, eqb}
-use borrow.Author.Tests.{ltb-true, leb-true, lt-ltb, le-ltb, le-leb, lt-leb, eq-eqb, ne_eqb}
+use lib.Dec.{leb}
+use borrow.Author.Tests.{ltb-true, leb-true, lt-ltb, le-ltb, le-leb, lt-leb, eq-eqb}
+use Rattle.std.specs.Prelude.{Option, None, Some}
+use Rattle.std.proofs.lemmas.Option.{none-some}
 use Rattle.endian.specs.Pick.{pick}
 use Rattle.endian.specs.Numbers.{bytes_of}
 use Rattle.endian.proofs.Numbers.{length-bytes_of, number-split}
@@ -34,36 +36,36 @@ unfolding is_in
 in-true lo hi e h = let a = both_true (leb lo (page_of e)) _ h in (leb-true _ _ a.0, ltb-true _ _ a.1)
 
 module _ (starts : List ℕ) (lo hi : ℕ) (e : Entry) where
-  pub no-change-cell : is_change e ≡ false → cell_for starts lo hi e ≡ 327680
+  pub no-change-cell : is_change e ≡ false → cell_for starts lo hi e ≡ None
   unfolding cell_for
   no-change-cell h = rw h
 
-  low-cell : is_change e ≡ true → page_of e < lo → cell_for starts lo hi e ≡ 327680
+  low-cell : is_change e ≡ true → page_of e < lo → cell_for starts lo hi e ≡ None
   unfolding cell_for is_in
   low-cell h l = rw (h, lt-leb lo (page_of e) l)
 
-  high-cell : is_change e ≡ true → lo ≤ page_of e → hi ≤ page_of e → cell_for starts lo hi e ≡ 327680
+  high-cell : is_change e ≡ true → lo ≤ page_of e → hi ≤ page_of e → cell_for starts lo hi e ≡ None
   unfolding cell_for is_in
   high-cell h l k = rw (h, le-leb lo (page_of e) l, le-ltb (page_of e) hi k)
 
-  own-cell : is_change e ≡ true → lo ≤ page_of e → page_of e < hi → cell_for starts lo hi e ≡ get_or starts (page_of e) 0 - get_or starts lo 0 + slot_of e
+  own-cell : is_change e ≡ true → lo ≤ page_of e → page_of e < hi → cell_for starts lo hi e ≡ Some (get_or starts (page_of e) 0 - get_or starts lo 0 + slot_of e)
   unfolding cell_for is_in
   own-cell h l k = rw (h, le-leb lo (page_of e) l, lt-ltb (page_of e) hi k)
 
 -- by the page that was read, or the group's end
 module _ (starts : List ℕ) (lo hi : ℕ) (e : Entry) (change : is_change e ≡ true) (i : ℕ) (is : i ≡ min (page_of e) hi) where
-  pub read_low : lo ≤ hi → i < lo → cell_for starts lo hi e ≡ 327680
+  pub read_low : lo ≤ hi → i < lo → cell_for starts lo hi e ≡ None
   read_low o h = low-cell starts lo hi e change (omega arith)
 
-  pub read-high : lo ≤ i → hi ≤ i → cell_for starts lo hi e ≡ 327680
+  pub read-high : lo ≤ i → hi ≤ i → cell_for starts lo hi e ≡ None
   read-high l h = high-cell starts lo hi e change (omega arith) (omega arith)
 
   module _ (l : lo ≤ i) (h : i < hi) where
     pub read-page : i ≡ page_of e
     read-page = omega arith
 
-    pub read-own : (k c : ℕ) → k ≡ slot_of e → c ≡ get_or starts i 0 - get_or starts lo 0 + k → c ≡ cell_for starts lo hi e
-    read-own k c q z = z ∙ ap₂ (λ (x y : ℕ). get_or starts x 0 - get_or starts lo 0 + y) read-page q ∙ sym (own-cell starts lo hi e change (omega arith) (omega arith))
+    pub read-own : (k c : ℕ) → k ≡ slot_of e → c ≡ get_or starts i 0 - get_or starts lo 0 + k → Some c ≡ cell_for starts lo hi e
+    read-own k c q z = ap Some (z ∙ ap₂ (λ (x y : ℕ). get_or starts x 0 - get_or starts lo 0 + y) read-page q) ∙ sym (own-cell starts lo hi e change (omega arith) (omega arith))
 
 -- an entry without a cell does not clash there
 clash-out : (lo hi : ℕ) (s : List ℕ) (at : ℕ) → both (is_change (said s at)) (is_in lo hi (said s at)) ≡ false → clash_in lo hi s at ≡ false
@@ -74,46 +76,42 @@ clash-out lo hi s at b = go (is_change (said s at)) refl (is_in lo hi (said s at
     go x q false b = refl
     go false q true b = no-clash (before s at) (said s at) q
 
--- by the number of its cell
-cell-none : (starts : List ℕ) (lo hi : ℕ) (s : List ℕ) (at : ℕ) → ((is_change (said s at) ≡ true) → (lo ≤ page_of (said s at)) → (page_of (said s at) < hi) → get_or starts (page_of (said s at)) 0 - get_or starts lo 0 + slot_of (said s at) < 327680)
-    → cell_for starts lo hi (said s at) ≡ 327680 → clash_in lo hi s at ≡ false
+-- by its cell
+cell-none : (starts : List ℕ) (lo hi : ℕ) (s : List ℕ) (at : ℕ) → cell_for starts lo hi (said s at) ≡ None → clash_in lo hi s at ≡ false
 unfolding cell_for
-cell-none starts lo hi s at fits e = go (both (is_change (said s at)) (is_in lo hi (said s at))) refl e
+cell-none starts lo hi s at e = go (both (is_change (said s at)) (is_in lo hi (said s at))) refl e
   where
-    go : (b : Bool) → both (is_change (said s at)) (is_in lo hi (said s at)) ≡ b → pick b (get_or starts (page_of (said s at)) 0 - get_or starts lo 0 + slot_of (said s at)) 327680 ≡ 327680 → clash_in lo hi s at ≡ false
-    go true q z =
-        let a = both_true (is_change (said s at)) _ q in
-        let b = in-true lo hi (said s at) a.1 in
-        absurd (omega (arith, fits a.0 b.0 b.1))
+    go : (b : Bool) → both (is_change (said s at)) (is_in lo hi (said s at)) ≡ b → pick b (Some (get_or starts (page_of (said s at)) 0 - get_or starts lo 0 + slot_of (said s at))) None ≡ None → clash_in lo hi s at ≡ false
+    go true q z = absurd (none-some _ (sym z))
     go false q z = clash-out lo hi s at q
 
--- an entry with a cell
-record Own (starts : List ℕ) (lo hi : ℕ) (e : Entry) : Type 0 where
+-- an entry with the cell c
+record Own (starts : List ℕ) (lo hi : ℕ) (e : Entry) (c : ℕ) : Type 0 where
   pub change : is_change e ≡ true
   pub low : lo ≤ page_of e
   pub high : page_of e < hi
-  pub cell : cell_for starts lo hi e ≡ get_or starts (page_of e) 0 - get_or starts lo 0 + slot_of e
+  pub cell : c ≡ get_or starts (page_of e) 0 - get_or starts lo 0 + slot_of e
   pub inside : is_in lo hi e ≡ true
 
-own : (starts : List ℕ) (lo hi : ℕ) (e : Entry) → (cell_for starts lo hi e ≡ 327680 → ⊥) → Own starts lo hi e
+own : (starts : List ℕ) (lo hi : ℕ) (e : Entry) (c : ℕ) → Some c ≡ cell_for starts lo hi e → Own starts lo hi e c
 unfolding cell_for
-own starts lo hi e n = go (both (is_change e) (is_in lo hi e)) refl n
+own starts lo hi e c n = go (both (is_change e) (is_in lo hi e)) refl n
   where
-    go : (b : Bool) → both (is_change e) (is_in lo hi e) ≡ b → (pick b (get_or starts (page_of e) 0 - get_or starts lo 0 + slot_of e) 327680 ≡ 327680 → ⊥) → Own starts lo hi e
+    go : (b : Bool) → both (is_change e) (is_in lo hi e) ≡ b → Some c ≡ pick b (Some (get_or starts (page_of e) 0 - get_or starts lo 0 + slot_of e)) None → Own starts lo hi e c
     go true q n =
         let a = both_true (is_change e) _ q in
         let b = in-true lo hi e a.1 in
-        record { change = a.0; low = b.0; high = b.1; cell = rw q; inside = a.1 }
-    go false q n = absurd (n refl)
+        record { change = a.0; low = b.0; high = b.1; cell = cc; inside = a.1 }
+    go false q n = absurd (none-some _ (sym n))
 
 -- what is known of its cell
-module _ {s starts space : List ℕ} {lo hi at : ℕ} (k : Known s starts space lo hi at) (c : ℕ) (is : c ≡ cell_for starts lo hi (said s at)) where
-  pub no_cell : c ≡ 327680 → clash_in lo hi s at ≡ false
-  no_cell e = cell-none starts lo hi s at k.fits (sym is ∙ e)
+module _ {s starts space : List ℕ} {lo hi at : ℕ} (k : Known s starts space lo hi at) where
+  pub no_cell : None ≡ cell_for starts lo hi (said s at) → clash_in lo hi s at ≡ false
+  no_cell e = cell-none starts lo hi s at (sym e)
 
-  module _ (n : c ≡ 327680 → ⊥) where
-    at_own : Own starts lo hi (said s at)
-    at_own = own starts lo hi (said s at) (λ e. n (is ∙ e))
+  module _ (c : ℕ) (is : Some c ≡ cell_for starts lo hi (said s at)) where
+    at_own : Own starts lo hi (said s at) c
+    at_own = own starts lo hi (said s at) c is
 
     pub own-change : is_change (said s at) ≡ true
     own-change = at_own.change
@@ -122,23 +120,24 @@ module _ {s starts space : List ℕ} {lo hi at : ℕ} (k : Known s starts space 
     own-fits = let o = at_own in omega (arith, o.cell, k.fits o.change o.low o.high)
 
     pub own-tells : Newest s at (page_of (said s at)) (slot_of (said s at)) (cell_in space c)
-    own-tells = let o = at_own in ap (cell_in space) (is ∙ o.cell) ∙ k.tells o.change o.low o.high
+    own-tells = let o = at_own in ap (cell_in space) o.cell ∙ k.tells o.change o.low o.high
 
     pub own-clash : {r : Bool} → r ≡ clash_after (before s at) (said s at) → r ≡ clash_in lo hi s at
     own-clash e = e ∙ sym (rw at_own.inside)
 
 module _ (t : ℕ) (space : List ℕ) where
-  pub noted-none : (c : ℕ) → c ≡ 327680 → space ≡ noted false c t space
+  pub noted-none : space ≡ noted false None t space
   unfolding noted
-  noted-none c e = rw (eq-eqb c 327680 e)
+  noted-none = refl
 
-  pub noted-clash : (c : ℕ) → space ≡ noted true c t space
+  pub noted-clash : (c : Option ℕ) → space ≡ noted true c t space
   unfolding noted
-  noted-clash c = refl
+  noted-clash None = refl
+  noted-clash (Some c) = refl
 
-  pub noted-new : (c : ℕ) → (c ≡ 327680 → ⊥) → paste space (2 * c) (bytes_of 2 (kept t)) 2 ≡ noted false c t space
+  pub noted-new : (c : ℕ) → paste space (2 * c) (bytes_of 2 (kept t)) 2 ≡ noted false (Some c) t space
   unfolding noted
-  noted-new c n = rw (ne_eqb c 327680 n)
+  noted-new c = refl
 
 -- ---- cells of two bytes
 
@@ -247,12 +246,11 @@ module _ {s starts space : List ℕ} {limit lo hi at : ℕ} (g : Group s starts 
       cell = get_or starts (page_of (said s at)) 0 - get_or starts lo 0 + slot_of (said s at)
 
       go : (b : Bool) → both (is_change (said s at)) (is_in lo hi (said s at)) ≡ b
-          → Group s starts (pick (eqb (pick b cell 327680) 327680) space (paste space (2 * pick b cell 327680) (bytes_of 2 (kept (said s at).txn)) 2)) limit lo hi (at + length_at s at)
+          → Group s starts (noted false (pick b (Some cell) None) (said s at).txn space) limit lo hi (at + length_at s at)
       go true q =
           let a = both_true (is_change (said s at)) _ q in
           let b = in-true lo hi (said s at) a.1 in
-          let f : eqb cell 327680 ≡ false = ne_eqb cell 327680 (λ e. omega (arith, cell-fits a.0 b.0 b.1, cell-is a.0 b.0 b.1)) in
-          rw f (stored a.0 b.0 b.1 cell (cell-is a.0 b.0 b.1))
+          stored a.0 b.0 b.1 cell (cell-is a.0 b.0 b.1)
       go false q = skipped q
 
 -- a group at the first place

@@ -1,11 +1,11 @@
 -- Internal: the cells of a group of pages on a walk for clashes.
-use Rattle.std.specs.Prelude.{ℕ, ◌+◌, ◌*◌, ◌-◌, ◌≤◌, ◌<◌, ◌≡◌, Bool, true, List, length, get_or, eqb}
+use Rattle.std.specs.Prelude.{ℕ, ◌+◌, ◌*◌, ◌-◌, ◌≤◌, ◌<◌, ◌≡◌, Bool, true, List, length, get_or, Option, Some, None}
 use Rattle.std.proofs.Math.Seq.{paste}
 use Rattle.endian.specs.Pick.{pick}
 use Rattle.endian.specs.Numbers.{bytes_of, number_at}
 use Rattle.wal.specs.Entry.{Entry}
 use Rattle.wal.specs.Prefix.{Met, said}
-use Rattle.rules.specs.Shape.{both, either, is_change, is_shaped, slot_of, page_of, top_on}
+use Rattle.rules.specs.Shape.{both, is_change, is_shaped, slot_of, page_of, top_on}
 use Rattle.rules.specs.Mend.{top_of}
 use Rattle.cells.specs.Cell.{cell_of, Starts}
 use Rattle.clash.specs.Newest.{kept, Newest}
@@ -33,9 +33,9 @@ pub record Group (s starts space : List ℕ) (limit lo hi at : ℕ) : Type 0 whe
   pub long : length space ≡ 655360
   pub tell : (i k : ℕ) → lo ≤ i → i < hi → k < top_of i ground.es → Newest s at i k (cell_in space (cell_of ground.es lo i k))
 
--- the cell of the slot that an entry changes, if it is one of the group; else 327680
-unfoldable pub cell_for : List ℕ → ℕ → ℕ → Entry → ℕ
-cell_for starts lo hi e = pick (both (is_change e) (is_in lo hi e)) (get_or starts (page_of e) 0 - get_or starts lo 0 + slot_of e) 327680
+-- the cell of the slot that an entry changes, if it is one of the group
+unfoldable pub cell_for : List ℕ → ℕ → ℕ → Entry → Option ℕ
+cell_for starts lo hi e = pick (both (is_change e) (is_in lo hi e)) (Some (get_or starts (page_of e) 0 - get_or starts lo 0 + slot_of e)) None
 
 -- what is known of the cell of the entry at `at`, if it has one
 pub record Known (s starts space : List ℕ) (lo hi at : ℕ) : Type 0 where
@@ -45,5 +45,6 @@ pub record Known (s starts space : List ℕ) (lo hi at : ℕ) : Type 0 where
       → Newest s at (page_of (said s at)) (slot_of (said s at)) (cell_in space (get_or starts (page_of (said s at)) 0 - get_or starts lo 0 + slot_of (said s at)))
 
 -- the cells after an entry of transaction t: its own cell, if it has one, keeps t; they stay where it clashes
-unfoldable pub noted : Bool → ℕ → ℕ → List ℕ → List ℕ
-noted clash c t space = pick (either clash (eqb c 327680)) space (paste space (2 * c) (bytes_of 2 (kept t)) 2)
+unfoldable pub noted : Bool → Option ℕ → ℕ → List ℕ → List ℕ
+noted clash None t space = space
+noted clash (Some c) t space = pick clash space (paste space (2 * c) (bytes_of 2 (kept t)) 2)

@@ -16,30 +16,27 @@ use cells::inner::{cell_at, clear, group_end, page_at};
 use change::inner::is_change;
 use endian::TxnNumber;
 use endian::inner::{put_u16, u16_at, u64_at};
-use states::inner::{look_back, state_after};
+use states::inner::{State, look_back, state_after};
 use wal::FIRST;
 use wal::inner::{place_before, standing};
 
 // Whether v is a place whose entry is of transaction t.
-fn is_of(log: &[u8], t: u64, v: u32) -> bool
+fn is_of(log: &[u8], t: TxnNumber, v: u32) -> bool
     requires { 1 < v → v + 20 ≤ length log.now }
-    ensures { result ≡ is_of log.now t v }
+    ensures { result ≡ is_of log.now t.0 v }
 {
-    if v <= 1 {
-        return false;
-    }
-    u64_at(log, v as usize + 12) == t
+    v > 1 && TxnNumber(u64_at(log, v as usize + 12)) == t
 }
 
 // Notes the entry at `at`, after which its transaction t is open: in a free place of its remainder. Where both are of others, nothing is known any more.
-fn enter_open(log: &[u8], at: usize, t: u64, opens: &mut [u32; 32766])
-    requires log_len_bound { (length log.now ≤ 16777216) × (t ≡ (said log.now at).txn) × (state_after (said log.now at).kind ≡ 1) }
+fn enter_open(log: &[u8], at: usize, t: TxnNumber, opens: &mut [u32; 32766])
+    requires log_len_bound { (length log.now ≤ 16777216) × (t.0 ≡ (said log.now at).txn) × (state_after (said log.now at).kind ≡ 1) }
     requires met { Met log.now at }
     requires stands { Stands log.now at }
     requires opens { Opens log.now at opens.old }
     ensures { Opens log.now (at + length_at log.now at) opens.new }
 {
-    let r = (t % 16383) as usize;
+    let r = (t.0 % 16383) as usize;
     let v = opens[r];
     if is_of(log, t, v) {
         return;
@@ -60,14 +57,14 @@ fn enter_open(log: &[u8], at: usize, t: u64, opens: &mut [u32; 32766])
 }
 
 // Notes the entry at `at`, after which its transaction t is not open: its place becomes free.
-fn enter_ended(log: &[u8], at: usize, t: u64, opens: &mut [u32; 32766])
-    requires t_value { (t ≡ (said log.now at).txn) × (state_after (said log.now at).kind ≡ 1 → ⊥) }
+fn enter_ended(log: &[u8], at: usize, t: TxnNumber, opens: &mut [u32; 32766])
+    requires t_value { (t.0 ≡ (said log.now at).txn) × (state_after (said log.now at).kind ≡ 1 → ⊥) }
     requires met { Met log.now at }
     requires stands { Stands log.now at }
     requires opens { Opens log.now at opens.old }
     ensures { Opens log.now (at + length_at log.now at) opens.new }
 {
-    let r = (t % 16383) as usize;
+    let r = (t.0 % 16383) as usize;
     if is_of(log, t, opens[r]) {
         opens[r] = 0;
         return;
@@ -79,17 +76,17 @@ fn enter_ended(log: &[u8], at: usize, t: u64, opens: &mut [u32; 32766])
 }
 
 // Notes the entry at `at`, of transaction t. Of transaction 0 nothing is kept: none clashes with it.
-fn enter(log: &[u8], at: usize, kind: u8, t: u64, opens: &mut [u32; 32766])
-    requires log_len_bound { (length log.now ≤ 16777216) × (kind ≡ (said log.now at).kind) × (t ≡ (said log.now at).txn) }
+fn enter(log: &[u8], at: usize, kind: u8, t: TxnNumber, opens: &mut [u32; 32766])
+    requires log_len_bound { (length log.now ≤ 16777216) × (kind ≡ (said log.now at).kind) × (t.0 ≡ (said log.now at).txn) }
     requires met { Met log.now at }
     requires stands { Stands log.now at }
     requires opens { Opens log.now at opens.old }
     ensures { Opens log.now (at + length_at log.now at) opens.new }
 {
-    if t == 0 {
+    if t == TxnNumber(0) {
         return;
     }
-    if state_after(kind) == 1 {
+    if state_after(kind) == State::Open {
         enter_open(log, at, t, opens);
         return;
     }
@@ -97,51 +94,49 @@ fn enter(log: &[u8], at: usize, kind: u8, t: u64, opens: &mut [u32; 32766])
 }
 
 // Whether transaction u is open before `at`; by stepping backward where nothing is known of its remainder.
-fn is_open(log: &[u8], at: usize, opens: &[u32; 32766], u: u64) -> bool
-    requires u_nonzero { 0 < u }
+fn is_open(log: &[u8], at: usize, opens: &[u32; 32766], u: TxnNumber) -> bool
+    requires u_nonzero { 0 < u.0 }
     requires met { Met log.now at }
     requires opens { Opens log.now at opens.now }
-    ensures { result ≡ eqb (state_of u (before log.now at)) 1 }
+    ensures { result ≡ eqb (state_of u.0 (before log.now at)) 1 }
 {
-    let r = (u % 16383) as usize;
+    let r = (u.0 % 16383) as usize;
     let v = opens[r];
     if v == 1 {
-        return look_back(log, at, TxnNumber(u)) == 1;
+        return look_back(log, at, u) == State::Open;
     }
-    if is_of(log, u, v) {
-        return true;
-    }
-    is_of(log, u, opens[r + 16383])
+    is_of(log, u, v) || is_of(log, u, opens[r + 16383])
 }
 
 // Whether the change at `at`, by transaction t, clashes with the newest one on its slot, which is by transaction u.
-fn clashes_with(log: &[u8], at: usize, t: u64, u: u64, opens: &[u32; 32766]) -> bool
-    requires t_value { (t ≡ (said log.now at).txn) × (is_change (said log.now at) ≡ true) × (u ≡ newest_on (page_of (said log.now at)) (slot_of (said log.now at)) 0 (before log.now at)) }
+fn clashes_with(log: &[u8], at: usize, t: TxnNumber, u: TxnNumber, opens: &[u32; 32766]) -> bool
+    requires t_value { (t.0 ≡ (said log.now at).txn) × (is_change (said log.now at) ≡ true) × (u.0 ≡ newest_on (page_of (said log.now at)) (slot_of (said log.now at)) 0 (before log.now at)) }
     requires met { Met log.now at }
     requires opens { Opens log.now at opens.now }
     ensures { result ≡ clash_after (before log.now at) (said log.now at) }
 {
-    if u == 0 {
-        return false;
-    }
-    if u == t {
-        return false;
-    }
-    is_open(log, at, opens, u)
+    u != TxnNumber(0) && u != t && is_open(log, at, opens, u)
 }
 
 // What a cell keeps of transaction t.
-fn kept_of(t: u64) -> u16
-    ensures { result ≡ kept t }
+fn kept_of(t: TxnNumber) -> u16
+    ensures { result ≡ kept t.0 }
 {
-    if t == 0 {
+    if t == TxnNumber(0) {
         return 0;
     }
-    (t % 65532) as u16 + 1
+    (t.0 % 65532) as u16 + 1
 }
 
-// The cell of the slot that the entry at `at` changes, if its page is one of the group; else 327680.
-fn cell_for(log: &[u8], at: usize, kind: u8, starts: &[u32; 4097], lo: usize, hi: usize) -> usize
+// The cell of the slot that the entry at `at` changes, if its page is one of the group.
+fn cell_for(
+    log: &[u8],
+    at: usize,
+    kind: u8,
+    starts: &[u32; 4097],
+    lo: usize,
+    hi: usize,
+) -> Option<usize>
     requires kind_value { (kind ≡ (said log.now at).kind) × (is_shaped (said log.now at) ≡ true) × (lo ≤ hi) × (hi ≤ 4096) }
     requires stands { Stands log.now at }
     requires lo_bound { is_change (said log.now at) ≡ true → lo ≤ page_of (said log.now at) → page_of (said log.now at) < hi → get_or starts.now lo 0 ≤ get_or starts.now (page_of (said log.now at)) 0 }
@@ -150,17 +145,17 @@ fn cell_for(log: &[u8], at: usize, kind: u8, starts: &[u32; 4097], lo: usize, hi
     ensures { result ≡ cell_for starts.now lo hi (said log.now at) }
 {
     if !is_change(kind) {
-        return 327680;
+        return None;
     }
     let i = page_at(log, at, hi);
     if i < lo {
-        return 327680;
+        return None;
     }
     if i >= hi {
-        return 327680;
+        return None;
     }
     let k = u16_at(log, at + 35) as usize;
-    cell_at(starts, lo, i, k)
+    Some(cell_at(starts, lo, i, k))
 }
 
 // Whether the entry at place changes this slot of this page.
@@ -169,37 +164,31 @@ fn on_slot(log: &[u8], place: usize, page: u64, slot: u16) -> bool
     requires place_value { is_shaped (said log.now place) ≡ true }
     ensures { result ≡ on_slot page slot (said log.now place) }
 {
-    let kind = log[place + 20];
-    if !is_change(kind) {
-        return false;
-    }
-    if u64_at(log, place + 27) != page {
-        return false;
-    }
-    slot == u16_at(log, place + 35)
+    is_change(log[place + 20]) && u64_at(log, place + 27) == page && slot == u16_at(log, place + 35)
 }
 
 // The transaction of the newest change on a slot before place, by stepping backward; 0 for none.
-fn newest_back(log: &[u8], place: usize, page: u64, slot: u16) -> u64
+fn newest_back(log: &[u8], place: usize, page: u64, slot: u16) -> TxnNumber
     requires met { Met log.now place }
     requires shaped { Shaped log.now place }
-    ensures { result ≡ newest_on page slot 0 (before log.now place) }
+    ensures { result.0 ≡ newest_on page slot 0 (before log.now place) }
 {
     let mut p = place;
+    // A step goes back to the entry before, as far as that one is long: there is no index to count.
     loop {
         if p <= FIRST {
-            return 0;
+            return TxnNumber(0);
         }
         p = place_before(log, p);
         if on_slot(log, p, page, slot) {
-            return u64_at(log, p + 12);
+            return TxnNumber(u64_at(log, p + 12));
         }
     }
 }
 
 // Whether the change at `at`, by transaction t, clashes; by stepping backward to the newest one on its slot.
-fn clashes_back(log: &[u8], at: usize, t: u64, opens: &[u32; 32766]) -> bool
-    requires t_value { (t ≡ (said log.now at).txn) × (is_change (said log.now at) ≡ true) × (is_shaped (said log.now at) ≡ true) }
+fn clashes_back(log: &[u8], at: usize, t: TxnNumber, opens: &[u32; 32766]) -> bool
+    requires t_value { (t.0 ≡ (said log.now at).txn) × (is_change (said log.now at) ≡ true) × (is_shaped (said log.now at) ≡ true) }
     requires met { Met log.now at }
     requires stands { Stands log.now at }
     requires shaped { Shaped log.now at }
@@ -211,23 +200,20 @@ fn clashes_back(log: &[u8], at: usize, t: u64, opens: &[u32; 32766]) -> bool
 }
 
 // Whether the place v may tell of a transaction other than t that a cell keeps as x.
-fn may_clash(log: &[u8], t: u64, x: u16, v: u32) -> bool
+fn may_clash(log: &[u8], t: TxnNumber, x: u16, v: u32) -> bool
     requires { 1 < v → v + 20 ≤ length log.now }
-    ensures { result ≡ false → Quiet log.now t x v }
+    ensures { result ≡ false → Quiet log.now t.0 x v }
 {
     if v <= 1 {
         return v != 0;
     }
-    let u = u64_at(log, v as usize + 12);
-    if u == t {
-        return false;
-    }
-    kept_of(u) == x
+    let u = TxnNumber(u64_at(log, v as usize + 12));
+    u != t && kept_of(u) == x
 }
 
 // The same by x, which the cell of the slot keeps: no clash where of that remainder no transaction is open but t, or such as x does not keep; else the log is asked.
-fn clashes_by_cell(log: &[u8], at: usize, t: u64, x: u16, opens: &[u32; 32766]) -> bool
-    requires t_value { (t ≡ (said log.now at).txn) × (is_change (said log.now at) ≡ true) × (is_shaped (said log.now at) ≡ true) }
+fn clashes_by_cell(log: &[u8], at: usize, t: TxnNumber, x: u16, opens: &[u32; 32766]) -> bool
+    requires t_value { (t.0 ≡ (said log.now at).txn) × (is_change (said log.now at) ≡ true) × (is_shaped (said log.now at) ≡ true) }
     requires met { Met log.now at }
     requires stands { Stands log.now at }
     requires shaped { Shaped log.now at }
@@ -253,7 +239,7 @@ fn touch(
     log: &[u8],
     at: usize,
     kind: u8,
-    t: u64,
+    t: TxnNumber,
     starts: &[u32; 4097],
     lo: usize,
     hi: usize,
@@ -261,19 +247,18 @@ fn touch(
     opens: &[u32; 32766],
 ) -> bool
     requires kind_value { (kind ≡ (said log.now at).kind) × (is_shaped (said log.now at) ≡ true) × (lo ≤ hi) × (hi ≤ 4096) }
-    requires t_value { (t ≡ (said log.now at).txn) × (length space.old ≡ 655360) }
+    requires t_value { (t.0 ≡ (said log.now at).txn) × (length space.old ≡ 655360) }
     requires met { Met log.now at }
     requires stands { Stands log.now at }
     requires shaped { Shaped log.now at }
     requires known { Known log.now starts.now space.old lo hi at }
     requires opens { Opens log.now at opens.now }
     ensures value { result ≡ clash_in lo hi log.now at }
-    ensures space_after { space.new ≡ noted result (cell_for starts.now lo hi (said log.now at)) t space.old }
+    ensures space_after { space.new ≡ noted result (cell_for starts.now lo hi (said log.now at)) t.0 space.old }
 {
-    let c = cell_for(log, at, kind, starts, lo, hi);
-    if c == 327680 {
+    let Some(c) = cell_for(log, at, kind, starts, lo, hi) else {
         return false;
-    }
+    };
     if clashes_by_cell(log, at, t, u16_at(space, 2 * c), opens) {
         return true;
     }
@@ -298,20 +283,28 @@ fn clash_in(
 {
     let mut opens = [0u32; 32766];
     let mut at = FIRST;
+    // A step is as long as the entry itself: there is no index to count.
     while at < limit {
         let v = standing(log, at);
-        if touch(log, at, v.kind, v.txn.0, starts, lo, hi, space, &opens) {
+        if touch(log, at, v.kind, v.txn, starts, lo, hi, space, &opens) {
             return at;
         }
-        enter(log, at, v.kind, v.txn.0, &mut opens);
+        enter(log, at, v.kind, v.txn, &mut opens);
         at += v.length;
     }
     limit
 }
 
 // Whether the entry at `at` clashes on a page that is none of the first n.
-fn touch_beyond(log: &[u8], at: usize, kind: u8, t: u64, n: usize, opens: &[u32; 32766]) -> bool
-    requires kind_value { (kind ≡ (said log.now at).kind) × (t ≡ (said log.now at).txn) × (is_shaped (said log.now at) ≡ true) }
+fn touch_beyond(
+    log: &[u8],
+    at: usize,
+    kind: u8,
+    t: TxnNumber,
+    n: usize,
+    opens: &[u32; 32766],
+) -> bool
+    requires kind_value { (kind ≡ (said log.now at).kind) × (t.0 ≡ (said log.now at).txn) × (is_shaped (said log.now at) ≡ true) }
     requires met { Met log.now at }
     requires stands { Stands log.now at }
     requires shaped { Shaped log.now at }
@@ -329,6 +322,8 @@ fn touch_beyond(log: &[u8], at: usize, kind: u8, t: u64, n: usize, opens: &[u32;
 }
 
 // The first clash before limit on a page that is none of the first n, or limit.
+// Kept (c): one walk for both over a closure was tried, with the closure over `touch_beyond`. An FnMut that may be called at any arguments (IsAlwaysCallable) did not prove of it, since
+// `touch_beyond` asks that the entry stands and that `opens` tells of those before it; `touch` asks that its cells do too.
 fn clash_beyond(log: &[u8], limit: usize, n: usize) -> usize
     requires log_len_bound { length log.now ≤ 16777216 }
     requires met { Met log.now limit }
@@ -337,12 +332,13 @@ fn clash_beyond(log: &[u8], limit: usize, n: usize) -> usize
 {
     let mut opens = [0u32; 32766];
     let mut at = FIRST;
+    // A step is as long as the entry itself: there is no index to count.
     while at < limit {
         let v = standing(log, at);
-        if touch_beyond(log, at, v.kind, v.txn.0, n, &opens) {
+        if touch_beyond(log, at, v.kind, v.txn, n, &opens) {
             return at;
         }
-        enter(log, at, v.kind, v.txn.0, &mut opens);
+        enter(log, at, v.kind, v.txn, &mut opens);
         at += v.length;
     }
     limit
@@ -366,6 +362,7 @@ pub fn clash(
 {
     let mut limit = stop;
     let mut lo = 0;
+    // A step is as many pages as fit into one group: there is no index to count.
     while lo < n {
         let hi = group_end(starts, lo, n);
         clear(space);

@@ -1,17 +1,18 @@
 -- The register over runs of bytes: pieces give the whole, and a run goes in as one number.
 -- Assumes nothing.
-use mathlib.Core.Path.{◌≡◌, refl, sym, ap, ap₂, ◌∙◌}
+use mathlib.Core.Path.{◌≡◌, refl, sym, ap, ap₂, ◌∙◌, subst}
 use mathlib.Core.List.{List, [], ◌∷◌, ◌++◌, append-nil}
-use Prim.Native.Nat.{ℕ, zero, suc, ◌+◌, ◌*◌, ◌-◌, ◌≤◌, ◌<◌}
-use native.Mathlib.Nat.{zero-add, suc-add}
+use Prim.Native.Nat.{ℕ, zero, suc, ◌+◌, ◌*◌, ◌/◌, ◌≤◌, ◌<◌}
+use native.Mathlib.Nat.{zero-add, suc-add, zero-mul, suc-mul, mul-le-mul_right, div-mul-le_self}
 use native.Mathlib.Numerals.{add-one}
 use native.Mathlib.Omega.{arith}
 use lib.Bits.{bit_xor, xor_comm, xor_zero_r, xor_shifted}
 use lib.ListN.{length, get_or, take, drop, take-append-drop, length-drop, drop_of_length-le}
-use lib.Seq.{drop-cons, length-take-le, drop-drop, take-nil}
+use lib.Seq.{drop-cons, length-take-le, drop-drop, take-nil, take_all}
+use Rattle.std.specs.Simd.{first_chunks}
 use Rattle.endian.specs.Numbers.{Bytes, number_of, number_at}
 use Rattle.endian.proofs.Bytes.{bytes_take, bytes_drop}
-use Rattle.crc32c.specs.Crc.{shift, shifts, fed, start, finished, crc32c}
+use Rattle.crc32c.specs.Crc.{shifts, fed, start, finished, crc32c}
 use Rattle.crc32c.proofs.Xor.{xor_assoc}
 use Rattle.crc32c.proofs.Shifts.{shifts-xor, shifts-out, shifts-add}
 use Rattle.crc32c.proofs.Over.{fed-from}
@@ -113,32 +114,60 @@ pub at-end : (i c : ℕ) (s : List ℕ) → length s ≤ i → c ≡ fed c (drop
 unfolding fed
 at-end i c s h = rw (drop_of_length-le s h)
 
--- a piece of n bytes at i, and then the rest
-pub piece : (s : List ℕ) (i n c r : ℕ) → r ≡ fed c (take n (drop i s)) → fed r (drop (i + n) s) ≡ fed c (drop i s)
-piece s i n c r e =
-    ap₂ fed e (sym (drop-drop n i s)) ∙ sym (fed-append c (take n (drop i s)) (drop n (drop i s)))
-    ∙ ap (fed c) (take-append-drop n (drop i s))
+-- all of the n bytes of s
+pub all : (s : List ℕ) (n c r : ℕ) → length s ≡ n → r ≡ shifts 0 (fed c (take n (drop 0 s))) → r ≡ fed c s
+unfolding shifts
+all s n c r h e = e ∙ ap (fed c) (take_all n s (omega arith))
 
 -- the steps of the code, from the sums of their parts
-pub step-2 : (s : List ℕ) (i c r : ℕ) → Bytes s → i + 2 ≤ length s → r ≡ shifts 16 (bit_xor c (number_at 2 i s)) → fed r (drop (i + 2) s) ≡ fed c (drop i s)
-unfolding shifts
-step-2 s i c r b h e = piece s i 2 c r (e ∙ run_at s i 2 0 c b h)
+pub step-2 : (s : List ℕ) (c r : ℕ) → Bytes s → length s ≡ 2 → r ≡ shifts 16 (bit_xor c (number_at 2 0 s)) → r ≡ fed c s
+step-2 s c r b h e = all s 2 c r h (e ∙ run_at s 0 2 0 c b (omega arith))
 
-pub step-4 : (s : List ℕ) (i c r : ℕ) → r ≡ shifts 0 (fed c (take 4 (drop i s))) → fed r (drop (i + 4) s) ≡ fed c (drop i s)
-unfolding shifts
-step-4 s i c r e = piece s i 4 c r e
+pub step-4 : (s : List ℕ) (c r : ℕ) → length s ≡ 4 → r ≡ shifts 0 (fed c (take 4 (drop 0 s))) → r ≡ fed c s
+step-4 s c r h e = all s 4 c r h e
 
-pub step-8 : (s : List ℕ) (i c x y : ℕ) → i + 8 ≤ length s → y ≡ shifts 0 (fed 0 (take 4 (drop (i + 4) s))) → x ≡ shifts 32 (fed c (take 4 (drop i s)))
-    → fed (bit_xor y x) (drop (i + 8) s) ≡ fed c (drop i s)
-unfolding shifts
-step-8 s i c x y h ey ex = piece s i 8 c (bit_xor y x) (join s i (i + 4) 4 4 0 4 c x y refl refl (omega arith) ey ex)
+pub step-8 : (s : List ℕ) (c x y : ℕ) → length s ≡ 8 → y ≡ shifts 0 (fed 0 (take 4 (drop 4 s))) → x ≡ shifts 32 (fed c (take 4 (drop 0 s)))
+    → bit_xor y x ≡ fed c s
+step-8 s c x y h ey ex = all s 8 c (bit_xor y x) h (join s 0 4 4 4 0 4 c x y refl refl (omega arith) ey ex)
 
-pub step-16 : (s : List ℕ) (i c x y₁ y₂ y₃ : ℕ) → i + 16 ≤ length s → y₃ ≡ shifts 0 (fed 0 (take 4 (drop (i + 12) s))) → y₂ ≡ shifts 32 (fed 0 (take 4 (drop (i + 8) s)))
-    → y₁ ≡ shifts 64 (fed 0 (take 4 (drop (i + 4) s))) → x ≡ shifts 96 (fed c (take 4 (drop i s)))
-    → fed (bit_xor (bit_xor (bit_xor y₃ y₂) y₁) x) (drop (i + 16) s) ≡ fed c (drop i s)
-unfolding shifts
-step-16 s i c x y₁ y₂ y₃ h e₃ e₂ e₁ ex =
-    piece s i 16 c (bit_xor (bit_xor (bit_xor y₃ y₂) y₁) x)
-    (join s i (i + 4) 4 12 0 12 c x (bit_xor (bit_xor y₃ y₂) y₁) refl refl (omega arith)
-    (join s (i + 4) (i + 8) 4 8 0 8 0 y₁ (bit_xor y₃ y₂) (omega arith) refl (omega arith)
-    (join s (i + 8) (i + 12) 4 4 0 4 0 y₂ y₃ (omega arith) refl (omega arith) e₃ e₂) e₁) ex)
+pub step-16 : (s : List ℕ) (c x y₁ y₂ y₃ : ℕ) → length s ≡ 16 → y₃ ≡ shifts 0 (fed 0 (take 4 (drop 12 s))) → y₂ ≡ shifts 32 (fed 0 (take 4 (drop 8 s)))
+    → y₁ ≡ shifts 64 (fed 0 (take 4 (drop 4 s))) → x ≡ shifts 96 (fed c (take 4 (drop 0 s)))
+    → bit_xor (bit_xor (bit_xor y₃ y₂) y₁) x ≡ fed c s
+step-16 s c x y₁ y₂ y₃ h e₃ e₂ e₁ ex =
+    all s 16 c (bit_xor (bit_xor (bit_xor y₃ y₂) y₁) x) h
+    (join s 0 4 4 12 0 12 c x (bit_xor (bit_xor y₃ y₂) y₁) refl refl (omega arith)
+    (join s 4 8 4 8 0 8 0 y₁ (bit_xor y₃ y₂) refl refl (omega arith)
+    (join s 8 12 4 4 0 4 0 y₂ y₃ refl refl (omega arith) e₃ e₂) e₁) ex)
+
+-- ---- a loop over the pieces of n bytes
+
+piece_at : (n k count : ℕ) (s : List ℕ) → k < count → get_or (first_chunks n count s) k [] ≡ take n (drop (k * n) s)
+piece_at n k zero s h = absurd (omega arith)
+piece_at n zero (suc count) s h = ap (λ (m : ℕ). take n (drop m s)) (sym (zero-mul n))
+piece_at n (suc k) (suc count) s h =
+    let e : n + k * n ≡ suc k * n = omega (arith, suc-mul k n) in
+    piece_at n k count (drop n s) (omega arith) ∙ ap (take n) (drop-drop (k * n) n s ∙ ap (λ (m : ℕ). drop m s) e)
+
+module _ (n k : ℕ) (s : List ℕ) (ps : List (List ℕ)) (front : ps ≡ first_chunks n (length s / n) s) (count : length ps ≡ length s / n) (h : k < length ps) where
+  piece_is : get_or ps k [] ≡ take n (drop (k * n) s)
+  piece_is = ap (λ (x : List (List ℕ)). get_or x k []) front ∙ piece_at n k (length s / n) s (omega arith)
+
+  pub piece_length : length (get_or ps k []) ≡ n
+  piece_length =
+      let r : suc k * n ≤ length s / n * n = mul-le-mul_right n (omega arith) in
+      ap length piece_is ∙ part_length s (k * n) n (omega (arith, suc-mul k n, div-mul-le_self (length s) n, r))
+
+  pub piece_bytes : Bytes s → Bytes (get_or ps k [])
+  piece_bytes b = subst Bytes (sym piece_is) (bytes_take n (bytes_drop (k * n) b))
+
+  -- it stands before what follows it
+  pub piece_rest : get_or ps k [] ++ drop ((k + 1) * n) s ≡ drop (k * n) s
+  piece_rest =
+      let e : k * n + n ≡ (k + 1) * n = omega (arith, suc-mul k n) in
+      ap (λ (x : List ℕ). x ++ drop ((k + 1) * n) s) piece_is
+      ∙ ap (λ (x : List ℕ). take n (drop (k * n) s) ++ x) (sym (drop-drop n (k * n) s ∙ ap (λ (m : ℕ). drop m s) e)) ∙ take-append-drop n (drop (k * n) s)
+
+  -- a turn takes one piece more
+  pub by_pieces : (c r : ℕ) → r ≡ fed c (get_or ps k []) → fed r (drop ((k + 1) * n) s) ≡ fed c (drop (k * n) s)
+  by_pieces c r e =
+      ap (λ (y : ℕ). fed y (drop ((k + 1) * n) s)) e ∙ sym (fed-append c (get_or ps k []) (drop ((k + 1) * n) s)) ∙ ap (fed c) piece_rest

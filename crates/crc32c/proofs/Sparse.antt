@@ -2,13 +2,15 @@
 -- Assumes nothing.
 use mathlib.Core.Path.{◌≡◌, refl, sym, ap, ap₂, ◌∙◌, subst}
 use mathlib.Core.List.{List, [], ◌++◌, append-nil}
-use Prim.Native.Nat.{ℕ, zero, suc, ◌+◌, ◌*◌, ◌-◌, ◌^◌, ◌≤◌, ◌<◌}
+use Prim.Native.Nat.{ℕ, ◌+◌, ◌*◌, ◌/◌, ◌-◌, ◌^◌, ◌≤◌, ◌<◌}
 use native.Mathlib.Nat.{add-zero}
 use native.Mathlib.Omega.{arith}
 use native.Mathlib.Decide.{dec_lt}
 use lib.Bits.{bit_xor, xor_comm, xor_self, xor_zero_r, xor_zero_l}
 use lib.ListN.{length, take, drop, get_or, length-append, length-drop, take-append-drop, replicate, length-replicate, get_or-append, get_or-eq_default}
-use lib.Seq.{get_or-take, get_or-drop, get_or-append-add, length-take-le, ext_get_or, drop-drop, take_all, take-take, take-length, paste}
+use lib.Seq.{get_or-take, get_or-drop, get_or-append-add, length-take-le, ext_get_or, take-take, take-length, paste}
+use Rattle.std.proofs.lemmas.List.{append_assoc}
+use Rattle.std.specs.Simd.{first_chunks}
 use Rattle.endian.specs.Numbers.{Bytes, bytes_of}
 use Rattle.endian.proofs.Bytes.{bytes_drop, bytes_take, bytes-of, bytes-append, bytes-zeros}
 use Rattle.endian.proofs.Numbers.{number-back, length-bytes_of}
@@ -18,10 +20,10 @@ use Rattle.crc32c.specs.Sparse.{degree, e₄, e₃, e₂, e₁, history_bytes, c
 use Rattle.crc32c.proofs.Xor.{xor_assoc}
 use Rattle.crc32c.proofs.Shifts.{shifts-xor, shifts-zero, shifts-add}
 use Rattle.crc32c.proofs.Range.{fed-lt}
-use Rattle.crc32c.proofs.Runs.{run, word, word_number, part_length}
+use Rattle.crc32c.proofs.Runs.{run, word, word_number, piece_rest}
 use Rattle.crc32c.proofs.Over.{over-same, over-xor, over_add, over-fed, over-from, over-late, over-end}
 use Rattle.crc32c.proofs.Cancel.{pull-same, pull-xor, pull-shifts, pull-at, Top, six-none, top-1, top-2}
-use Rattle.crc32c.proofs.Stores.{Below, Above}
+use Rattle.crc32c.proofs.Stores.{Below, Above, zeros-at}
 
 -- (a ^ r) ^ b is r ^ (a ^ b)
 swap : (a r b : ℕ) → bit_xor (bit_xor a r) b ≡ bit_xor r (bit_xor a b)
@@ -191,11 +193,6 @@ pull-none k f j h =
     ap₂ bit_xor (h _) (ap₂ bit_xor (h _) (ap₂ bit_xor (h _) (ap₂ bit_xor (h _) (ap f (sym (add-zero j)) ∙ h 0))))
 
 -- ---- as the code has them
-
-pub zeros-at : (n m : ℕ) → get_or {A = ℕ} (replicate n 0) m 0 ≡ 0
-zeros-at zero m = refl
-zeros-at (suc n) zero = refl
-zeros-at (suc n) (suc m) = zeros-at n m
 
 -- the first a elements as a list of their own, given by its elements
 front_at : (l z : List ℕ) (a : ℕ) → a ≤ length l → Below z (λ m. get_or l m 0) a → Above z (λ m. 0) a → (i : ℕ) → get_or z i 0 ≡ get_or (take a l) i 0
@@ -374,22 +371,13 @@ started c s h l =
         (ap₂ bit_xor (late 78 j (omega arith)) (ap₂ bit_xor (late 28 j (omega arith)) (begun-at c j)))))
         ∙ xor_comm (get_or s j 0) (get_or (bytes_of 4 c) j 0)
 
--- ---- a turn, and the end
+-- ---- a turn takes one chunk of the body b, which stands before the ending t
 
-part : (s : List ℕ) (i e : ℕ) → i ≤ e → take (e - i) (drop i s) ++ drop e s ≡ drop i s
-part s i e h =
-    let z : i + (e - i) ≡ e = omega arith in
-    ap (λ (m : ℕ). take (e - i) (drop i s) ++ drop m s) (sym z)
-    ∙ ap (λ (l : List ℕ). take (e - i) (drop i s) ++ l) (sym (drop-drop (e - i) i s)) ∙ take-append-drop (e - i) (drop i s)
-
-pub stepped : (p q s : List ℕ) (i e x : ℕ) → i ≤ e → e + history_bytes ≤ length s
-    → ((r : List ℕ) → history_bytes ≤ length r → carried q r ≡ carried p (take (e - i) (drop i s) ++ r)) → carried p (drop i s) ≡ x → carried q (drop e s) ≡ x
-stepped p q s i e x h l f g = f (drop e s) (simp length-drop (omega arith)) ∙ ap (carried p) (part s i e h) ∙ g
-
-pub ended : (p q s : List ℕ) (i e r x : ℕ) → i ≤ e → e + ending_bytes ≤ length s → e - i ≤ chunk_bytes → Room buffer_bytes p → Room buffer_bytes q
-    → Filled 2 (length (take (e - i) (drop i s))) p (take (e - i) (drop i s)) q → r ≡ carried (drop (e - i) q) (take (length s - e) (drop e s)) → carried p (drop i s) ≡ x → r ≡ x
-ended p q s i e r x h l n rp rq f er g =
-    let a = take (e - i) (drop i s) in
-    let la : length a ≡ e - i = part_length s i (e - i) (omega arith) in
-    er ∙ ap₂ (λ (m : ℕ) (b : List ℕ). carried (drop m q) b) (sym la) (take_all (length s - e) (drop e s) (simp length-drop (omega arith)))
-    ∙ chunked p a q (drop e s) rp rq (omega arith) (simp length-drop (omega arith)) f ∙ ap (carried p) (part s i e h) ∙ g
+pub stepped : (k : ℕ) (b t p q : List ℕ) (ps : List (List ℕ)) (y : ℕ) → ps ≡ first_chunks chunk_bytes (length b / chunk_bytes) b
+    → length ps ≡ length b / chunk_bytes → k < length ps → history_bytes ≤ length t
+    → ((r : List ℕ) → history_bytes ≤ length r → carried q r ≡ carried p (get_or ps k [] ++ r)) → carried p (drop (k * chunk_bytes) b ++ t) ≡ y
+    → carried q (drop ((k + 1) * chunk_bytes) b ++ t) ≡ y
+stepped k b t p q ps y front count h l f e =
+    let r = drop ((k + 1) * chunk_bytes) b in
+    f (r ++ t) (simp length-append (omega arith))
+    ∙ ap (carried p) (sym (append_assoc (get_or ps k []) r t) ∙ ap (λ (x : List ℕ). x ++ t) (piece_rest chunk_bytes k b ps front count h)) ∙ e

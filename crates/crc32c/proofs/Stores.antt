@@ -1,15 +1,16 @@
 -- Loops that store one byte a turn: what is below the place is as a function gives it, and what is above as it was.
 -- Assumes nothing.
-use mathlib.Core.Path.{◌≡◌, refl, sym, ap, ap₂, ◌∙◌}
+use mathlib.Core.Path.{◌≡◌, refl, sym, ap, ap₂, ◌∙◌, subst}
 use mathlib.Core.List.{List, [], ◌∷◌}
-use Prim.Native.Nat.{ℕ, zero, suc, ◌+◌, ◌*◌, ◌≤◌, ◌<◌}
+use Prim.Native.Nat.{ℕ, zero, suc, ◌+◌, ◌*◌, ◌-◌, ◌≤◌, ◌<◌}
 use native.Mathlib.Omega.{arith}
 use native.Mathlib.Decide.{dec_lt}
 use lib.Bits.{bit_xor, xor_lt}
 use lib.ListN.{length, get_or, set, take, drop, replicate, length-drop, length-set, length-replicate}
-use lib.Seq.{get_or-set_same, get_or-set_other, get_or-take, get_or-drop, length-take-le, ext_get_or}
+use lib.Seq.{paste, get_or-set_same, get_or-set_other, get_or-take, get_or-drop, length-take-le, ext_get_or}
+use Rattle.std.proofs.lemmas.List.Edits.{take-paste, drop-paste}
 use Rattle.endian.specs.Numbers.{Bytes}
-use Rattle.endian.proofs.Bytes.{bytes-zeros, bytes-cons}
+use Rattle.endian.proofs.Bytes.{bytes-append, bytes_take, bytes_drop, bytes-zeros, bytes-cons}
 use Rattle.crc32c.specs.Sparse.{degree, e₄, e₃, e₂, e₁, history_bytes, chunk_bytes, buffer_bytes, pull, Filled, Room}
 
 -- the first k elements are those of g; those from k on are
@@ -72,20 +73,49 @@ filled_more k j v h s p hk hl e f = record { front = λ i l. front i l; each = �
             ap (λ (n : ℕ). get_or (set p (j + degree * k) v) (n + degree * k) 0) z ∙ new
             ∙ ap (λ (n : ℕ). bit_xor (get_or s n 0) (pull k (λ i. get_or (set p (j + degree * k) v) i 0) n)) (sym z)
 
--- what a loop moved to the front
-pub moved : (h p : List ℕ) → Room buffer_bytes h → Room buffer_bytes p → Below p (λ m. get_or h (m + chunk_bytes) 0) history_bytes → take history_bytes p ≡ take history_bytes (drop chunk_bytes h)
-moved h p rh rp below =
-    let lh : length h ≡ buffer_bytes = rh.size in
-    let lp : length p ≡ buffer_bytes = rp.size in
+-- what was moved to the front
+pub moved : (h p : List ℕ) → length h ≡ buffer_bytes → length p ≡ buffer_bytes → Below p (λ m. get_or h (chunk_bytes + m) 0) history_bytes
+    → take history_bytes p ≡ take history_bytes (drop chunk_bytes h)
+moved h p lh lp below =
     let ep : length (take history_bytes p) ≡ history_bytes = length-take-le history_bytes p (omega arith) in
     let eh : length (take history_bytes (drop chunk_bytes h)) ≡ history_bytes = length-take-le history_bytes (drop chunk_bytes h) (simp length-drop (omega arith)) in
     ext_get_or 0 (take history_bytes p) (take history_bytes (drop chunk_bytes h)) (omega arith) (λ i l. at i (omega arith))
   where
     at : (i : ℕ) → i < history_bytes → get_or (take history_bytes p) i 0 ≡ get_or (take history_bytes (drop chunk_bytes h)) i 0
     at i b =
-        let e : i + chunk_bytes ≡ chunk_bytes + i = omega arith in
-        get_or-take history_bytes p i 0 b ∙ below i b ∙ ap (λ (m : ℕ). get_or h m 0) e
-        ∙ sym (get_or-take history_bytes (drop chunk_bytes h) i 0 b ∙ get_or-drop chunk_bytes h i 0)
+        get_or-take history_bytes p i 0 b ∙ below i b ∙ sym (get_or-take history_bytes (drop chunk_bytes h) i 0 b ∙ get_or-drop chunk_bytes h i 0)
+
+pub zeros-at : (n m : ℕ) → get_or {A = ℕ} (replicate n 0) m 0 ≡ 0
+zeros-at zero m = refl
+zeros-at (suc n) zero = refl
+zeros-at (suc n) (suc m) = zeros-at n m
+
+-- a history behind which zeros stand
+module _ (p z : List ℕ) (n : ℕ) (w : n ≤ chunk_bytes) (lp : length p ≡ buffer_bytes) (e : z ≡ paste (replicate 736 0) 0 (take history_bytes (drop n p)) history_bytes) where
+  abbrev h : List ℕ
+  h = take history_bytes (drop n p)
+
+  lh : length h ≡ history_bytes
+  lh = length-take-le history_bytes (drop n p) (simp length-drop (omega arith))
+
+  pub history_at : Below z (λ m. get_or p (m + n) 0) history_bytes
+  history_at m b =
+      let c : n + m ≡ m + n = omega arith in
+      sym (get_or-take history_bytes z m 0 b)
+      ∙ ap (λ (l : List ℕ). get_or l m 0) (ap (take history_bytes) e ∙ take-paste (replicate 736 0) 0 h history_bytes (omega arith) (omega (arith, lh)))
+      ∙ get_or-take history_bytes h m 0 b ∙ get_or-take history_bytes (drop n p) m 0 b ∙ get_or-drop n p m 0 ∙ ap (λ (k : ℕ). get_or p k 0) c
+
+  pub zeros_behind : Above z (λ m. 0) history_bytes
+  zeros_behind m b =
+      let c : m ≡ history_bytes + (m - history_bytes) = omega arith in
+      ap (λ (k : ℕ). get_or z k 0) c ∙ sym (get_or-drop history_bytes z (m - history_bytes) 0)
+      ∙ ap (λ (l : List ℕ). get_or l (m - history_bytes) 0)
+      (ap (drop history_bytes) e ∙ drop-paste (replicate 736 0) 0 h history_bytes (omega arith) (omega (arith, lh)))
+      ∙ get_or-drop history_bytes (replicate 736 0) (m - history_bytes) 0 ∙ zeros-at 736 (history_bytes + (m - history_bytes))
+
+-- n bytes of which each was one before
+pub room-from : (n : ℕ) (h p : List ℕ) → Room n h → length p ≡ length h → ((i : ℕ) → (j : ℕ) × (get_or p i 0 ≡ get_or h j 0)) → Room n p
+room-from n h p r l e = record { size = l ∙ r.size; bytes = record { at = λ i. subst (λ (x : ℕ). x < 256) (sym (e i).1) (r.bytes.at (e i).0) } }
 
 -- ---- bytes stay bytes
 
@@ -106,3 +136,8 @@ room-set {n} {l} k v h r = record { size = length-set l k v ∙ r.size; bytes = 
 
 pub room-zeros : (n : ℕ) → Room n (replicate n 0)
 room-zeros n = record { size = length-replicate {A = ℕ} n 0; bytes = bytes-zeros n }
+
+-- zeros, and a history before them, are bytes
+pub room-paste : {p z : List ℕ} (n : ℕ) → Room buffer_bytes p → z ≡ paste (replicate 736 0) 0 (take history_bytes (drop n p)) history_bytes → Bytes z
+room-paste {p} {z} n r e =
+    subst Bytes (sym e) (bytes-append (bytes_take history_bytes (bytes_take history_bytes (bytes_drop n r.bytes))) (bytes_drop history_bytes (bytes-zeros 736)))

@@ -1,10 +1,10 @@
 // The checksum over lent tables: sixteen bytes at a time. A long input is first shortened by a sparse multiple of the polynomial, which needs no table.
 ghost use Rattle.std.specs.Prelude.{◌≡◌, ℕ, ◌+◌, ◌*◌, ◌%◌, ◌^◌, ◌<◌, ◌≤◌, List, ◌++◌, length, take, drop};
 ghost use Rattle.crc32c.specs.Crc.{shifts, fed, crc32c as crc_of};
-ghost use Rattle.crc32c.specs.Tables.{Tables};
 ghost use Rattle.crc32c.specs.Sparse.{history_bytes, chunk_bytes, buffer_bytes, ending_bytes, last_bytes, Filled, Room, carried};
 
-use endian::inner::{put_u32, u16_at, u32_at};
+pub use crate::tables::Tables;
+use endian::inner::{copy_in, put_u32, u16_at, u32_at};
 
 // From so many bytes on a sparse multiple shortens an input first; shorter ones are done sooner by the tables alone.
 const LONG_BYTES: usize = 960;
@@ -30,36 +30,23 @@ fn byte(x: u32) -> u32
     ensures { result ≡ shifts 8 x }
 {
     let mut r = x;
-    let mut i: usize = 0;
-    while i < 8 {
+    for _ in 0..8u8 {
         r = ((r & 1) * 0x82F6_3B78) ^ (r >> 1);
-        i += 1;
     }
     r
 }
 
-// Sixteen tables, one behind the other.
-pub type Tables = [u32; 4096];
-
 // The sixteen tables.
-pub fn tables() -> Tables
-    ensures { Tables result }
-{
-    let mut t = [0u32; 4096];
-    let mut n: u32 = 0;
-    let mut k: usize = 0;
-    'first: while k < 256 {
-        t[k] = byte(n);
-        n += 1;
-        k += 1;
+pub fn tables() -> Tables {
+    let mut words = [0u32; 4096];
+    'first: for n in 0..256u32 {
+        words[n as usize] = byte(n);
     }
-    'rest: while k < 4096 {
-        let x = t[k - 256];
-        let j = (x & 255) as usize;
-        t[k] = (x >> 8) ^ t[j];
-        k += 1;
+    'rest: for k in 256..4096usize {
+        let x = words[k - 256];
+        words[k] = (x >> 8) ^ words[(x & 255) as usize];
     }
-    t
+    Tables { words }
 }
 
 fn low(x: u32) -> u8
@@ -70,15 +57,15 @@ fn low(x: u32) -> u8
 
 // What the byte b leaves in the register after itself and k more bytes.
 fn look(t: &Tables, k: usize, b: u8) -> u32
-    requires { Tables t.now × (k < 16) }
+    requires { k < 16 }
     ensures { result ≡ shifts (8 * (k + 1)) b }
 {
-    t[k * 256 + b as usize]
+    t.words[k * 256 + b as usize]
 }
 
 // What the four bytes of x leave after themselves and k more bytes.
 fn four(t: &Tables, k: usize, x: u32) -> u32
-    requires { Tables t.now × (k ≤ 12) }
+    requires { k ≤ 12 }
     ensures { result ≡ shifts (8 * (k + 4)) x }
 {
     look(t, k, low(x >> 24))
@@ -89,7 +76,7 @@ fn four(t: &Tables, k: usize, x: u32) -> u32
 
 // The register c after the four bytes of s at i, and after k more bytes, which are not yet in it.
 fn lead(t: &Tables, k: usize, c: u32, s: &[u8], i: usize) -> u32
-    requires { Tables t.now × (k ≤ 12) × (i + 4 ≤ length s.now) }
+    requires { (k ≤ 12) × (i + 4 ≤ length s.now) }
     ensures { result ≡ shifts (8 * k) (fed c (take 4 (drop i s.now))) }
 {
     four(t, k, c ^ u32_at(s, i))
@@ -97,7 +84,7 @@ fn lead(t: &Tables, k: usize, c: u32, s: &[u8], i: usize) -> u32
 
 // What the four bytes of s at i leave after themselves and k more bytes.
 fn follow(t: &Tables, k: usize, s: &[u8], i: usize) -> u32
-    requires { Tables t.now × (k ≤ 12) × (i + 4 ≤ length s.now) }
+    requires { (k ≤ 12) × (i + 4 ≤ length s.now) }
     ensures { result ≡ shifts (8 * k) (fed 0 (take 4 (drop i s.now))) }
 {
     look(t, k, s[i + 3])
@@ -108,104 +95,91 @@ fn follow(t: &Tables, k: usize, s: &[u8], i: usize) -> u32
 
 // The register x after two bytes that are in it already, and after one.
 fn two(t: &Tables, x: u32) -> u32
-    requires { Tables t.now }
     ensures { result ≡ shifts 16 x }
 {
     (x >> 16) ^ look(t, 0, low(x >> 8)) ^ look(t, 1, low(x))
 }
 
 fn one(t: &Tables, x: u32) -> u32
-    requires { Tables t.now }
     ensures { result ≡ shifts 8 x }
 {
     (x >> 8) ^ look(t, 0, low(x))
 }
 
-// The register start after the bytes of s from place `from` on: the end of what `rest` goes over.
-fn few(t: &Tables, start: u32, s: &[u8], from: usize) -> u32
-    requires { Tables t.now × (from ≤ length s.now) }
-    ensures { result ≡ fed start (drop from s.now) }
+// The register c after sixteen bytes. Only the first four wait for it, so they go in last.
+#[inline(always)]
+fn sixteen(t: &Tables, c: u32, s: &[u8; 16]) -> u32
+    ensures { result ≡ fed c s.now }
+{
+    follow(t, 0, s, 12) ^ follow(t, 4, s, 8) ^ follow(t, 8, s, 4) ^ lead(t, 12, c, s, 0)
+}
+
+// The register start after the bytes of s: the end of what `rest` goes over. Steps of two and of one byte look differently (`two`, `one`), so they are no one function over a width.
+fn few(t: &Tables, start: u32, s: &[u8]) -> u32
+    ensures { result ≡ fed start s.now }
 {
     let mut c = start;
-    let mut i = from;
-    'twos: while 2 <= s.len() - i {
-        c = two(t, c ^ u16_at(s, i) as u32);
-        i += 2;
+    let (twos, last) = s.as_chunks::<2>();
+    for x in twos {
+        c = two(t, c ^ u16_at(x, 0) as u32);
     }
-    'bytes: while i < s.len() {
-        c = one(t, c ^ s[i] as u32);
-        i += 1;
+    for b in last {
+        c = one(t, c ^ *b as u32);
     }
     c
 }
 
-// The register start after the bytes of s from place `from` on: the end of what `words` goes over.
-fn rest(t: &Tables, start: u32, s: &[u8], from: usize) -> u32
-    requires { Tables t.now × (from ≤ length s.now) }
-    ensures { result ≡ fed start (drop from s.now) }
-{
-    let mut c = start;
-    let mut i = from;
-    'eights: while 8 <= s.len() - i {
-        c = follow(t, 0, s, i + 4) ^ lead(t, 4, c, s, i);
-        i += 8;
-    }
-    'fours: while 4 <= s.len() - i {
-        c = lead(t, 0, c, s, i);
-        i += 4;
-    }
-    few(t, c, s, i)
-}
-
-// Short inputs: sixteen bytes at a time. Only the first four wait for the register, so they go in last.
-fn words(t: &Tables, start: u32, s: &[u8]) -> u32
-    requires { Tables t.now }
+// The register start after the bytes of s: the end of what `words` goes over, by eights and by fours, which take the register in at another table each.
+fn rest(t: &Tables, start: u32, s: &[u8]) -> u32
     ensures { result ≡ fed start s.now }
 {
     let mut c = start;
-    let mut i = 0;
-    while 16 <= s.len() - i {
-        c = follow(t, 0, s, i + 12)
-            ^ follow(t, 4, s, i + 8)
-            ^ follow(t, 8, s, i + 4)
-            ^ lead(t, 12, c, s, i);
-        i += 16;
+    let (eights, behind) = s.as_chunks::<8>();
+    'eights: for x in eights {
+        c = follow(t, 0, x, 4) ^ lead(t, 4, c, x, 0);
     }
-    rest(t, c, s, i)
+    let (fours, last) = behind.as_chunks::<4>();
+    'fours: for x in fours {
+        c = lead(t, 0, c, x, 0);
+    }
+    few(t, c, last)
+}
+
+// Short inputs: sixteen bytes at a time.
+fn words(t: &Tables, start: u32, s: &[u8]) -> u32
+    ensures { result ≡ fed start s.now }
+{
+    let mut c = start;
+    let (steps, last) = s.as_chunks::<16>();
+    for x in steps {
+        c = sixteen(t, c, x);
+    }
+    rest(t, c, last)
 }
 
 // The bytes of s go behind the history. Each takes in five earlier ones: 288, 108, 78, 28 and 0 are the multiple's lower exponents, 144, 54, 39, 14 and 0, twice.
+// `Room` stays beside the type (tried without): after a call a proof knows an array's length, and not that its elements are bytes.
 fn fill(p: &mut Buffer, s: &[u8])
     requires s_len_bound { length s.now ≤ chunk_bytes }
     requires room { Room buffer_bytes p.old }
     ensures filled { Filled 2 (length s.now) p.old s.now p.new }
     ensures room_2 { Room buffer_bytes p.new }
 {
-    let mut j: usize = 0;
-    while j < s.len() {
-        p[j + HISTORY_BYTES] = s[j]
-            ^ (p[j + 288] ^ (p[j + 108] ^ (p[j + 78] ^ (p[j + 28] ^ p[j]))));
-        j += 1;
+    for (j, b) in s.iter().enumerate() {
+        p[j + HISTORY_BYTES] = *b ^ (p[j + 288] ^ (p[j + 108] ^ (p[j + 78] ^ (p[j + 28] ^ p[j]))));
     }
 }
 
 // The end of the buffer is the history of the next chunk.
 fn back(p: &mut Buffer)
-    requires { Room buffer_bytes p.old }
     ensures p_after { take history_bytes p.new ≡ take history_bytes (drop chunk_bytes p.old) }
     ensures room { Room buffer_bytes p.new }
 {
-    let mut i: usize = 0;
-    while i < HISTORY_BYTES {
-        p[i] = p[i + CHUNK_BYTES];
-        i += 1;
-    }
+    p.copy_within(CHUNK_BYTES.., 0);
 }
 
 // A whole chunk goes behind the history, and the end of it becomes the history.
-fn chunk(p: &mut Buffer, s: &[u8])
-    requires s_len { length s.now ≡ chunk_bytes }
-    requires room { Room buffer_bytes p.old }
+fn chunk(p: &mut Buffer, s: &[u8; CHUNK_BYTES])
     ensures by_index { (r : List ℕ) → history_bytes ≤ length r → carried p.new r ≡ carried p.old (s.now ++ r) }
     ensures room_2 { Room buffer_bytes p.new }
 {
@@ -215,64 +189,45 @@ fn chunk(p: &mut Buffer, s: &[u8])
 
 // The bytes of an ending, each with what the history, which stands in p from n on, leaves for it; behind the history nothing more is left.
 fn mix(p: &Buffer, n: usize, s: &[u8], o: &mut [u8; ENDING_BYTES])
-    requires n_le_chunk_bytes { (n ≤ chunk_bytes) × (length s.now ≡ ending_bytes) }
-    requires room { Room buffer_bytes p.now × Room ending_bytes o.old }
+    requires { (n ≤ chunk_bytes) × (length s.now ≡ ending_bytes) }
     ensures o_after { fed 0 o.new ≡ carried (drop n p.now) s.now }
     ensures room_2 { Room ending_bytes o.new }
 {
     let mut z = [0u8; 736];
-    let mut i: usize = 0;
-    'copy: while i < HISTORY_BYTES {
-        z[i] = p[i + n];
-        i += 1;
-    }
-    let mut j: usize = 0;
-    'mix: while j < ENDING_BYTES {
-        o[j] = s[j] ^ (z[j + 288] ^ (z[j + 108] ^ (z[j + 78] ^ (z[j + 28] ^ z[j]))));
-        j += 1;
+    copy_in(&mut z, 0, &p[n..n + HISTORY_BYTES]);
+    for (j, b) in s.iter().enumerate() {
+        o[j] = *b ^ (z[j + 288] ^ (z[j + 108] ^ (z[j + 78] ^ (z[j + 28] ^ z[j]))));
     }
 }
 
 // An ending, from the register 0, is shortened to its second half by the multiple itself: the exponents once, and the same 224 places on.
 fn halve(s: &[u8; ENDING_BYTES], o: &mut [u8; LAST_BYTES])
-    requires o_len { length o.old ≡ last_bytes }
-    requires room { Room ending_bytes s.now }
-    ensures { (length o.new ≡ last_bytes) × (fed 0 o.new ≡ fed 0 s.now) }
+    requires { Room ending_bytes s.now }
+    ensures { fed 0 o.new ≡ fed 0 s.now }
 {
     let mut p = [0u8; 592];
-    let mut j: usize = 0;
-    'fill: while j < LAST_BYTES {
+    'fill: for j in 0..LAST_BYTES {
         p[j + 209] = s[j] ^ (p[j + 144] ^ (p[j + 54] ^ (p[j + 39] ^ (p[j + 14] ^ p[j]))));
-        j += 1;
     }
-    let mut i: usize = 0;
-    'mix: while i < LAST_BYTES {
+    'mix: for i in 0..LAST_BYTES {
         o[i] = s[i + 224] ^ (p[i + 368] ^ (p[i + 278] ^ (p[i + 263] ^ (p[i + 238] ^ p[i + 224]))));
-        i += 1;
     }
 }
 
 // What is left of a long input, in the same steps; a call of `words` would have its own frame, and short inputs would pay for it.
 fn last(t: &Tables, s: &[u8; LAST_BYTES]) -> u32
-    requires { Tables t.now × (length s.now ≡ last_bytes) }
     ensures { result ≡ fed 0 s.now }
 {
     let mut c: u32 = 0;
-    let mut i: usize = 0;
-    while i < LAST_BYTES {
-        c = follow(t, 0, s, i + 12)
-            ^ follow(t, 4, s, i + 8)
-            ^ follow(t, 8, s, i + 4)
-            ^ lead(t, 12, c, s, i);
-        i += 16;
+    for x in s.as_chunks::<16>().0 {
+        c = sixteen(t, c, x);
     }
     c
 }
 
 // The register after the ending s of an input, with the history that stands in p from n on.
 fn tail(t: &Tables, p: &Buffer, n: usize, s: &[u8]) -> u32
-    requires tables { Tables t.now × (n ≤ chunk_bytes) × (length s.now ≡ ending_bytes) }
-    requires room { Room buffer_bytes p.now }
+    requires { (n ≤ chunk_bytes) × (length s.now ≡ ending_bytes) }
     ensures { result ≡ carried (drop n p.now) s.now }
 {
     let mut o = [0u8; ENDING_BYTES];
@@ -284,25 +239,22 @@ fn tail(t: &Tables, p: &Buffer, n: usize, s: &[u8]) -> u32
 
 // The register c after the bytes of s. It goes in with the first four: a history of its bytes and zeros.
 fn long(t: &Tables, c: u32, s: &[u8]) -> u32
-    requires { Tables t.now × (ending_bytes ≤ length s.now) }
+    requires { ending_bytes ≤ length s.now }
     ensures { result ≡ fed c s.now }
 {
     let mut p = [0u8; BUFFER_BYTES];
     put_u32(&mut p, 0, c);
-    let e = s.len() - ENDING_BYTES;
-    let mut i: usize = 0;
-    while CHUNK_BYTES <= e - i {
-        let k = i + CHUNK_BYTES;
-        chunk(&mut p, &s[i..k]);
-        i = k;
+    let (body, ending) = s.split_at(s.len() - ENDING_BYTES);
+    let (chunks, behind) = body.as_chunks::<CHUNK_BYTES>();
+    for x in chunks {
+        chunk(&mut p, x);
     }
-    fill(&mut p, &s[i..e]);
-    tail(t, &p, e - i, &s[e..])
+    fill(&mut p, behind);
+    tail(t, &p, behind.len(), ending)
 }
 
 // The register start after the bytes of s.
 pub fn update(t: &Tables, start: u32, s: &[u8]) -> u32
-    requires { Tables t.now }
     ensures { result ≡ fed start s.now }
 {
     if s.len() < LONG_BYTES {
@@ -313,7 +265,6 @@ pub fn update(t: &Tables, start: u32, s: &[u8]) -> u32
 
 // The checksum of s.
 pub fn crc32c(t: &Tables, s: &[u8]) -> u32
-    requires { Tables t.now }
     ensures { result ≡ crc_of s.now }
 {
     update(t, 0xFFFF_FFFF, s) ^ 0xFFFF_FFFF

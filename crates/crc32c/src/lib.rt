@@ -5,6 +5,7 @@ ghost use Rattle.std.specs.Prelude.{◌≡◌};
 ghost use Rattle.crc32c.specs.Crc.{fed, finished, crc32c as crc_of};
 
 pub mod inner;
+mod tables;
 
 // The register before the first byte.
 pub const START: u32 = 0xFFFF_FFFF;

@@ -7,8 +7,8 @@ use native.Mathlib.Nat.{pow-suc, pow-succ', one-le-pow, pow-le-pow_right, zero-d
 use native.Mathlib.Numerals.{add-one}
 use native.Mathlib.Omega.{arith}
 use mathlib.Core.List.{List}
-use mathlib.Core.Bool.{Bool, true, false}
-use lib.ListN.{length, get_or, set, replicate, length-replicate, get_or-replicate}
+use mathlib.Core.Bool.{Bool, true, false, not}
+use lib.ListN.{length, get_or, set, replicate, get_or-replicate}
 use lib.Seq.{get_or-set_same, get_or-set_other}
 use lib.Bits.{bit_or, or_step, or_shr}
 use lib.Dec.{eqb}
@@ -78,21 +78,30 @@ marked-bit l i j h =
 
 pub marks-none : (f : List ℕ) → Marks f 0 (replicate mark_bytes 0)
 unfolding bit_at is_named
-marks-none f = record { size = length-replicate {A = ℕ} mark_bytes 0; at = λ i h. rw (get_or-replicate {A = ℕ} mark_bytes (i / 8) 0 0 (omega arith), zero-div) }
+marks-none f = record { at = λ i h. rw (get_or-replicate {A = ℕ} mark_bytes (i / 8) 0 0 (omega arith), zero-div) }
 
 module _ {f : List ℕ} {k : ℕ} {l : List ℕ} (m : Marks f k l) where
-  pub marks-read : (i : ℕ) → i < page_limit → eqb (bit_at l i) 1 ≡ is_named f i k
-  marks-read i h = rw (m.at i h) (by-test (is_named f i k))
-    where
-      by-test : (b : Bool) → eqb (pick b 1 0) 1 ≡ b
-      by-test true = refl
-      by-test false = refl
+  -- as the set says of a page that is put into it whether it is new
+  module _ (i : ℕ) (h : i < page_limit) where
+    pub marks-old : not (eqb (bit_at l i) 1) ≡ false → is_named f i k ≡ true
+    marks-old e = by-test (is_named f i k) (rw (m.at i h) at e)
+      where
+        by-test : (b : Bool) → not (eqb (pick b 1 0) 1) ≡ false → b ≡ true
+        by-test true e = refl
+        by-test false e = sym e
+
+    pub marks-new : not (eqb (bit_at l i) 1) ≡ true → is_named f i k ≡ false
+    marks-new e = by-test (is_named f i k) (rw (m.at i h) at e)
+      where
+        by-test : (b : Bool) → not (eqb (pick b 1 0) 1) ≡ true → b ≡ false
+        by-test true e = sym e
+        by-test false e = refl
 
   -- one slot more
-  pub marks-more : (i : ℕ) (v : List ℕ) → i ≡ id_at f k → length v ≡ mark_bytes → ((j : ℕ) → bit_at v j ≡ pick (eqb i j) 1 (bit_at l j)) → Marks f (k + 1) v
+  pub marks-more : (i : ℕ) (v : List ℕ) → i ≡ id_at f k → ((j : ℕ) → bit_at v j ≡ pick (eqb i j) 1 (bit_at l j)) → Marks f (k + 1) v
   unfolding is_named
-  marks-more i v e size b =
-      record { size = size; at = λ j h. rw (add-one k, ← e) (b j ∙ ap (pick (eqb i j) 1) (m.at j h) ∙ by-test (eqb i j) (is_named f j k)) }
+  marks-more i v e b =
+      record { at = λ j h. rw (add-one k, ← e) (b j ∙ ap (pick (eqb i j) 1) (m.at j h) ∙ by-test (eqb i j) (is_named f j k)) }
     where
       by-test : (t u : Bool) → ◌≡◌ {A = ℕ} (pick t 1 (pick u 1 0)) (pick (pick t true u) 1 0)
       by-test true u = refl

@@ -1,64 +1,34 @@
 -- Repair page by page: what becomes of one page, and of each page of an area.
 -- Assumes nothing.
-use mathlib.Core.Path.{◌≡◌, refl, sym, ap, ◌∙◌}
+use mathlib.Core.Path.{◌≡◌, refl, ap, ◌∙◌}
 use mathlib.Core.Bool.{Bool, true, false}
 use Prim.Native.Nat.{ℕ, zero, suc, ◌+◌, ◌*◌, ◌≤◌, ◌<◌}
 use native.Mathlib.Nat.{add-zero, zero-add}
 use native.Mathlib.Omega.{arith}
-use mathlib.Core.List.{List, [], ◌∷◌}
+use mathlib.Core.List.{List, []}
 use lib.ListN.{length, length-append}
 use lib.Dec.{eqb}
-use borrow.Author.Tests.{eq-eqb, ne_eqb, eqb-true}
-use types.Run.{OneOf, miss}
-use denote.Enum.Declared.{tag_of}
+use borrow.Author.Tests.{eq-eqb, eqb-true}
+use Rattle.std.specs.Prelude.{Option, None, Some}
 use Rattle.endian.specs.Pick.{pick}
 use Rattle.crc32c.specs.Crc.{crc32c}
 use Rattle.page.specs.Layout.{page_bytes, pages_in, page_at, crc_of, body_of}
 use Rattle.page.specs.Good.{Good}
-use Rattle.page.specs.Fault.{fault_of, is_sound, size_wrong}
-use Rattle.refusals.specs.Verdict.{verdict, accepted}
-use Rattle.refusals.specs.declared.Verdict.{Verdict}
+use Rattle.page.specs.Fault.{fault_of, is_sound}
 use Rattle.page.specs.declared.Fault.{Fault}
-use Rattle.page.specs.declared.Fault.TheVariants.{Sound, MagicOrType, Id, Checksum, Count, FreeStart, FreeEnd, Slot}
-use Rattle.page.specs.contracts.Fault.{the_type}
 use Rattle.page.proofs.Picks.{never, both}
 use Rattle.page.proofs.FaultLaws.{sound-good, good-sound}
 use Rattle.page.proofs.Areas.{page-first, page-later}
 use Rattle.page.proofs.Verdicts.{page-length}
-use Rattle.doublewrite.specs.File.{slot_count, file_verdict}
-use Rattle.doublewrite.specs.Repair.{copy_in, is_torn, is_good, is_taken, repaired_page, repaired_by, restored_by, repair_verdict, repair_of, pages_after}
-use Rattle.doublewrite.proofs.FileLaws.{accepted-file}
+use Rattle.doublewrite.specs.Repair.{copy_in, is_torn, is_good, is_taken, repaired_page, repaired_by}
 
 -- ---- one page
 
-is-sound : (f : Fault) → is_sound f ≡ true → f ≡ Sound
-is-sound Sound e = refl
-is-sound MagicOrType e = never e
-is-sound Id e = never e
-is-sound Checksum e = never e
-is-sound Count e = never e
-is-sound FreeStart e = never e
-is-sound FreeEnd e = never e
-is-sound (Slot k) e = never e
-
--- as the `else` of `let Fault::Sound = .. else` knows it: the variant's number is not 0
-pub not_sound : (r : Fault) → OneOf (1 ∷ 2 ∷ 3 ∷ 4 ∷ 5 ∷ 6 ∷ 7 ∷ []) (tag_of the_type r) → is_sound r ≡ false
-not_sound Sound o = absurd (miss (1 ∷ 2 ∷ 3 ∷ 4 ∷ 5 ∷ 6 ∷ 7 ∷ []) 0 tt o)
-not_sound MagicOrType o = refl
-not_sound Id o = refl
-not_sound Checksum o = refl
-not_sound Count o = refl
-not_sound FreeStart o = refl
-not_sound FreeEnd o = refl
-not_sound (Slot k) o = refl
+is-sound : (f : Option Fault) → is_sound f ≡ true → f ≡ None
+is-sound None e = refl
+is-sound (Some f) e = never e
 
 module _ (magic i : ℕ) where
-  -- as code judges a page
-  module _ (c : List ℕ) (l : length c ≡ page_bytes) where
-    pub good-is : (r : Fault) → r ≡ fault_of magic i c → is_sound r ≡ is_good magic i c
-    unfolding is_good
-    good-is r e = rw (eq-eqb (length c) page_bytes l, e)
-
   -- a copy passes exactly if it is a good page
   pub good-copy : (c : List ℕ) → is_good magic i c ≡ true → Good magic i c
   unfolding is_good
@@ -158,25 +128,3 @@ module _ (magic : ℕ) (f : List ℕ) (k : ℕ) (s : List ℕ) where
 
   pub length-by : length (repaired_by magic f k s (pages_in s) 0) ≡ pages_in s * page_bytes
   length-by = length_from (pages_in s) 0 (omega arith)
-
--- ---- the answer, case by case
-
-module _ (magic : ℕ) (s f : List ℕ) (v : Verdict) where
-  abbrev Refused : Type 0
-  Refused = (record { verdict = v; count = 0 } ≡ repair_of magic s f) × (s ≡ pages_after magic s f)
-
-  pub repair-size : size_wrong s ≡ true → v ≡ verdict 1 0 → Refused
-  unfolding repair_of pages_after repair_verdict
-  repair-size h e = rw (e, h) (refl, refl)
-
-  module _ (h : size_wrong s ≡ false) (e : v ≡ file_verdict f (pages_in s)) where
-    pub repair-refused : (v.number ≡ 0 → ⊥) → Refused
-    unfolding repair_of pages_after repair_verdict
-    repair-refused r = rw (h, ← e, ne_eqb v.number 0 r) (refl, refl)
-
-    pub repair-done : v.number ≡ 0 → (n : ℕ) → n ≡ slot_count f → (d : List ℕ) (r : ℕ) → d ≡ repaired_by magic f n s (pages_in s) 0 → r ≡ restored_by magic f n s (pages_in s) 0
-        → (record { verdict = v; count = r } ≡ repair_of magic s f) × (d ≡ pages_after magic s f)
-    unfolding repair_of pages_after repair_verdict
-    repair-done z n en d r ed er =
-        let a : v ≡ accepted = e ∙ (accepted-file f (pages_in s) (ap (λ (u : Verdict). u.number) (sym e) ∙ z)).0 in
-        rw (h, ← e, a, ed, er, en) (refl, refl)

@@ -16,42 +16,39 @@ use Rattle.page.specs.Layout.{page_bytes, pages_in, page_at}
 use Rattle.page.proofs.Picks.{neither}
 use Rattle.page.proofs.Areas.{same-pages}
 use Rattle.page.proofs.Pasting.{paste-own, page-same, page-other}
-use Rattle.page.proofs.Verdicts.{page-length, page-part}
+use Rattle.page.proofs.Verdicts.{page-length}
 use Rattle.doublewrite.specs.File.{slot_place, id_at, copy_at, is_named}
 use Rattle.doublewrite.specs.Repair.{copy_in, is_torn, is_good, is_taken, repaired_page, repaired_by, restored_by}
 use Rattle.doublewrite.proofs.Repairing.{none-taken, whole-stays, bad-stays, good-taken, page-kept, page-restored, length-page, page-by, length-by}
 
--- ---- one page, as code goes through the cases: page i, lent as a part of d, and its copy c
+-- ---- one page, as code goes through the cases: p is page i of d, and c its copy
 
-module _ (magic i j : ℕ) (same : i ≡ j) (d c : List ℕ) where
-  abbrev p : List ℕ
-  p = take (i * 16384 + 16384 - i * 16384) (drop (i * 16384) d)
-
-  abbrev Left : List ℕ → ℕ → Type 0
-  Left v n = (v ≡ paste d (j * page_bytes) (repaired_page magic j c (page_at j d)) page_bytes) × (n ≡ pick (is_taken magic j c (page_at j d)) 1 0)
+module _ (magic i j : ℕ) (same : i ≡ j) (d c p : List ℕ) (is : p ≡ page_at i d) where
+  abbrev Left : List ℕ → Bool → Type 0
+  Left v b = (v ≡ paste d (j * page_bytes) (repaired_page magic j c (page_at j d)) page_bytes) × (b ≡ is_taken magic j c (page_at j d))
 
   part-is : p ≡ page_at j d
-  part-is = page-part d i ∙ ap (λ (n : ℕ). page_at n d) same
+  part-is = is ∙ ap (λ (n : ℕ). page_at n d) same
 
-  stays : is_taken magic j c (page_at j d) ≡ false → Left d 0
+  stays : is_taken magic j c (page_at j d) ≡ false → Left d false
   stays e = (rw (page-kept magic j c (page_at j d) e) (sym (paste-own d (j * page_bytes) page_bytes)), rw e)
 
-  pub left-whole : is_torn p ≡ false → Left d 0
+  pub left-whole : is_torn p ≡ false → Left d false
   left-whole h = stays (whole-stays magic j c (page_at j d) (ap is_torn (sym part-is) ∙ h))
 
   module _ (h : is_torn p ≡ true) where
     torn-here : is_torn (page_at j d) ≡ true
     torn-here = ap is_torn (sym part-is) ∙ h
 
-    pub left-bad : is_good magic i c ≡ false → Left d 0
+    pub left-bad : is_good magic i c ≡ false → Left d false
     left-bad g = stays (bad-stays magic j c (page_at j d) torn-here (ap (λ (n : ℕ). is_good magic n c) (sym same) ∙ g))
 
-    pub left-restored : (v : List ℕ) → is_good magic i c ≡ true → v ≡ paste d (i * page_bytes) c page_bytes → Left v 1
+    pub left-restored : (v : List ℕ) → is_good magic i c ≡ true → v ≡ paste d (i * page_bytes) c page_bytes → Left v true
     left-restored v g e =
         let t : is_taken magic j c (page_at j d) ≡ true = good-taken magic j c (page_at j d) torn-here (ap (λ (n : ℕ). is_good magic n c) (sym same) ∙ g) in
         (rw (page-restored magic j c (page_at j d) t, ← same) e, rw t)
 
--- `&file[p..q]`, the copy of slot k
+-- `&bytes[at..at + PAGE_BYTES]`, the copy of slot k
 pub copy-part : (f : List ℕ) (k s : ℕ) → s ≡ slot_place k → take (s + 8 + 16384 - (s + 8)) (drop (s + 8) f) ≡ copy_at f k
 copy-part f k s e = let z : s + 8 + 16384 - (s + 8) ≡ 16384 = omega arith in rw (z, e)
 

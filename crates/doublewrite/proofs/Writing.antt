@@ -1,26 +1,21 @@
 -- A file stored part by part, and what the writer answers.
 -- Assumes nothing.
 use mathlib.Core.Path.{◌≡◌, refl, sym, ap, ap₂, ◌∙◌}
-use mathlib.Core.Bool.{true, false}
 use Prim.Native.Nat.{ℕ, suc, ◌+◌, ◌*◌, ◌≤◌, ◌<◌}
 use native.Mathlib.Nat.{zero-add}
 use native.Mathlib.Numerals.{add-one}
 use native.Mathlib.Omega.{arith}
 use mathlib.Core.List.{List, [], ◌∷◌, ◌++◌, append_assoc, append-nil}
 use lib.ListN.{length, take, drop, get_or, length-append}
-use lib.Seq.{paste, take-suc, take_all, take-paste, length-paste, length-take-le, get_or-take}
-use borrow.Author.Tests.{lt-ltb, le-ltb}
+use lib.Seq.{paste, take-suc, take_all, take-paste, length-take-le, get_or-take}
 use Rattle.endian.specs.Numbers.{bytes_of}
 use Rattle.endian.proofs.Numbers.{length-bytes_of}
 use Rattle.endian.proofs.Stores.{first, more, number}
 use Rattle.crc32c.specs.Crc.{crc32c}
-use Rattle.refusals.specs.Verdict.{verdict, accepted}
-use Rattle.refusals.specs.declared.Verdict.{Verdict}
 use Rattle.page.specs.Layout.{page_bytes, pages_in, page_at}
-use Rattle.page.specs.Fault.{size_wrong}
 use Rattle.page.proofs.Verdicts.{page-length}
 use Rattle.doublewrite.specs.File.{header_bytes, slot_bytes, footer_bytes, slot_place, file_bytes, name, mark}
-use Rattle.doublewrite.specs.Write.{header_of, slot_of, slots_of, footer_of, front_of, file_of, rises, write_verdict, written_of, file_after}
+use Rattle.doublewrite.specs.Write.{header_of, slot_of, slots_of, footer_of, front_of, file_of}
 
 -- ---- lengths
 
@@ -98,10 +93,6 @@ slots-stored d w v s l k lent h r ew ev =
     let t : slots_of s (take (k + 1) l) ≡ slots_of s (take k l) ++ slot_of s (get_or l k 0) = rw (add-one k, take-suc l k 0 h) (slots-snoc s (take k l) (get_or l k 0)) in
     s2.is ∙ ap₂ (λ (a : List ℕ) (n : ℕ). paste d header_bytes a n) (sym t) z
 
-pub length-slotted : (d w s l : List ℕ) (k : ℕ) → Lent s l → k ≤ length l → slot_place (length l) ≤ length d
-    → w ≡ paste d header_bytes (slots_of s (take k l)) (slot_bytes * k) → length w ≡ length d
-length-slotted d w s l k lent h r e = ap length e ∙ length-paste d header_bytes (slots_of s (take k l)) (slot_bytes * k) (omega arith) (omega (arith, length_taken s l k lent h))
-
 pub footer-stored : (d w1 w2 : List ℕ) (n at crc : ℕ) → at ≡ slot_place n → file_bytes n ≤ length d → crc ≡ crc32c (take at d)
     → w1 ≡ paste d at (bytes_of 4 crc) 4 → w2 ≡ paste w1 (at + 4) (bytes_of 4 mark) 4 → w2 ≡ paste d (slot_place n) (footer_of (take (slot_place n) d)) footer_bytes
 unfolding footer_of
@@ -124,28 +115,3 @@ file-stored d w1 w2 w3 s l lent r e1 e2 e3 =
     let s3 = more s2 w3 (footer_of front) footer_bytes (length-footer front) (omega arith) (e3 ∙ ap₂ (λ (a : List ℕ) (m : ℕ). paste w2 m (footer_of a) footer_bytes) t (sym (zero-add (slot_place n)))) in
     let whole : take (file_bytes n) (front ++ footer_of front) ≡ front ++ footer_of front = take_all (file_bytes n) (front ++ footer_of front) (omega (arith, s3.long)) in
     s3.is ∙ ap₂ (λ (a : List ℕ) (m : ℕ). a ++ drop m d) whole (zero-add (file_bytes n))
-
--- ---- the writer's answer, case by case
-
-module _ (s l a : List ℕ) (v : Verdict) where
-  abbrev Refused : Type 0
-  Refused = (record { verdict = v; length = 0 } ≡ written_of s l a) × (a ≡ file_after s l a)
-
-  pub write-size : size_wrong s ≡ true → v ≡ verdict 1 0 → Refused
-  unfolding written_of file_after write_verdict
-  write-size h e = rw (e, h) (refl, refl)
-
-  module _ (h : size_wrong s ≡ false) where
-    pub write-list : rises 0 (pages_in s) l ≡ false → v ≡ verdict 25 0 → Refused
-    unfolding written_of file_after write_verdict
-    write-list r e = rw (e, h, r) (refl, refl)
-
-    module _ (r : rises 0 (pages_in s) l ≡ true) where
-      pub write-short : (n : ℕ) → n ≡ file_bytes (length l) → length a < n → v ≡ verdict 26 0 → Refused
-      unfolding written_of file_after write_verdict
-      write-short n en m e = rw (e, h, r, lt-ltb (length a) (file_bytes (length l)) (omega arith)) (refl, refl)
-
-      pub write_done : (n : ℕ) (w : List ℕ) → n ≡ file_bytes (length l) → n ≤ length a → v ≡ accepted → w ≡ file_of s l ++ drop (file_bytes (length l)) a
-          → (record { verdict = v; length = n } ≡ written_of s l a) × (w ≡ file_after s l a)
-      unfolding written_of file_after write_verdict
-      write_done n w en m e ew = rw (e, en, ew, h, r, le-ltb (length a) (file_bytes (length l)) (omega arith)) (refl, refl)

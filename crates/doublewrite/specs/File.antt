@@ -1,13 +1,12 @@
 -- A double-write file: where its parts stand, and what it is refused by (paper 02, W3; source document 000, DW File Format).
-use Rattle.std.specs.Prelude.{ℕ, zero, suc, ◌+◌, ◌*◌, List, [], ◌∷◌, Bool, true, false, length, take, ltb, eqb}
+use Rattle.std.specs.Prelude.{ℕ, zero, suc, ◌+◌, ◌*◌, List, [], ◌∷◌, Result, Bool, true, false, length, take, ltb, eqb}
 use Rattle.endian.specs.Pick.{pick}
 use Rattle.endian.specs.Numbers.{part, number_of, number_at}
 use Rattle.crc32c.specs.Crc.{crc32c}
 use Rattle.refusals.specs.Refusal.{page_area, doublewrite_header, doublewrite_checksum, doublewrite_mark, doublewrite_pages}
-use Rattle.refusals.specs.Verdict.{verdict, accepted}
+use Rattle.refusals.specs.Verdict.{verdict, accepted, answered}
 use Rattle.refusals.specs.declared.Verdict.{Verdict}
 use Rattle.page.specs.Layout.{page_bytes, page_limit}
-use Rattle.doublewrite.specs.declared.Contents.{Contents}
 
 -- ---- the parts: a header, slots of a page id and a page each, a footer
 
@@ -99,12 +98,9 @@ read_verdict f pages = pick (ltb page_limit pages) (verdict page_area 0) (file_v
 
 -- ---- reading
 
--- the verdict and the slot count; refused, 0 slots
-unfoldable pub contents_of : List ℕ → ℕ → Contents
-contents_of f pages =
-    pick (eqb (read_verdict f pages).number 0)
-    (record { verdict = accepted; slots = slot_count f })
-    (record { verdict = read_verdict f pages; slots = 0 })
+-- the slot count, or the verdict that refuses
+unfoldable pub contents_of : List ℕ → ℕ → Result ℕ Verdict
+contents_of f pages = answered (read_verdict f pages) (slot_count f)
 
 -- the id of slot k; 0 past the count, or where header or size is wrong
 unfoldable pub id_of : List ℕ → ℕ → ℕ

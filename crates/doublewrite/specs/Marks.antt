@@ -1,5 +1,5 @@
 -- Internal: one bit a page, 1 where a slot has named it.
-use Rattle.std.specs.Prelude.{ℕ, ◌/◌, ◌%◌, ◌^◌, ◌<◌, ◌≡◌, List, length, get_or}
+use Rattle.std.specs.Prelude.{ℕ, ◌/◌, ◌%◌, ◌^◌, ◌<◌, ◌≡◌, List, get_or}
 use Rattle.endian.specs.Pick.{pick}
 use Rattle.page.specs.Layout.{page_limit}
 use Rattle.doublewrite.specs.File.{is_named}
@@ -14,5 +14,4 @@ bit_at l i = get_or l (i / 8) 0 / 2 ^ (i % 8) % 2
 
 -- the bits of the pages that the first k slots of a file name
 pub record Marks (f : List ℕ) (k : ℕ) (l : List ℕ) : Type 0 where
-  pub size : length l ≡ mark_bytes
   pub at : (i : ℕ) → i < page_limit → bit_at l i ≡ pick (is_named f i k) 1 0

@@ -1,14 +1,13 @@
 -- Repair: torn pages restored from a double-write file (paper 02, W3).
-use Rattle.std.specs.Prelude.{ℕ, zero, suc, ◌+◌, List, [], ◌++◌, Bool, false, not, length, eqb}
+use Rattle.std.specs.Prelude.{ℕ, zero, suc, ◌+◌, List, [], ◌++◌, Result, Bool, false, not, length, eqb}
 use Rattle.endian.specs.Pick.{pick}
 use Rattle.crc32c.specs.Crc.{crc32c}
 use Rattle.refusals.specs.Refusal.{page_area}
-use Rattle.refusals.specs.Verdict.{verdict, accepted}
+use Rattle.refusals.specs.Verdict.{verdict, answered}
 use Rattle.refusals.specs.declared.Verdict.{Verdict}
 use Rattle.page.specs.Layout.{page_bytes, pages_in, page_at, crc_of, body_of}
 use Rattle.page.specs.Fault.{fault_of, is_sound, size_wrong}
 use Rattle.doublewrite.specs.File.{slot_count, id_at, copy_at, file_verdict}
-use Rattle.doublewrite.specs.declared.Restored.{Restored}
 
 -- ---- one page
 
@@ -60,12 +59,9 @@ restored magic f s = restored_by magic f (slot_count f) s (pages_in s) 0
 unfoldable pub repair_verdict : List ℕ → List ℕ → Verdict
 repair_verdict s f = pick (size_wrong s) (verdict page_area 0) (file_verdict f (pages_in s))
 
--- the verdict, and the count of pages restored; refused, 0
-unfoldable pub repair_of : ℕ → List ℕ → List ℕ → Restored
-repair_of magic s f =
-    pick (eqb (repair_verdict s f).number 0)
-    (record { verdict = accepted; count = restored magic f s })
-    (record { verdict = repair_verdict s f; count = 0 })
+-- the count of pages restored, or the verdict that refuses
+unfoldable pub repair_of : ℕ → List ℕ → List ℕ → Result ℕ Verdict
+repair_of magic s f = answered (repair_verdict s f) (restored magic f s)
 
 -- the pages then; refused, as lent
 unfoldable pub pages_after : ℕ → List ℕ → List ℕ → List ℕ

@@ -1,12 +1,11 @@
 -- Writing a double-write file (paper 02, W3).
-use Rattle.std.specs.Prelude.{ℕ, suc, List, [], ◌∷◌, ◌++◌, Bool, true, false, length, drop, ltb, leb, eqb}
+use Rattle.std.specs.Prelude.{ℕ, suc, List, [], ◌∷◌, ◌++◌, Result, Bool, true, false, length, drop, ltb, leb, eqb}
 use Rattle.endian.specs.Pick.{pick}
 use Rattle.endian.specs.Numbers.{bytes_of}
 use Rattle.crc32c.specs.Crc.{crc32c}
 use Rattle.refusals.specs.Refusal.{page_area, doublewrite_pages, doublewrite_short}
-use Rattle.refusals.specs.Verdict.{verdict, accepted}
+use Rattle.refusals.specs.Verdict.{verdict, accepted, answered}
 use Rattle.refusals.specs.declared.Verdict.{Verdict}
-use Rattle.refusals.specs.declared.Written.{Written}
 use Rattle.page.specs.Layout.{pages_in, page_at}
 use Rattle.page.specs.Fault.{size_wrong}
 use Rattle.doublewrite.specs.File.{file_bytes, name, version, mark}
@@ -49,12 +48,9 @@ write_verdict s list area =
 
 -- ---- all of it
 
--- the verdict, and the length written; refused, 0
-unfoldable pub written_of : List ℕ → List ℕ → List ℕ → Written
-written_of s list area =
-    pick (eqb (write_verdict s list area).number 0)
-    (record { verdict = accepted; length = file_bytes (length list) })
-    (record { verdict = write_verdict s list area; length = 0 })
+-- the length written, or the verdict that refuses
+unfoldable pub written_of : List ℕ → List ℕ → List ℕ → Result ℕ Verdict
+written_of s list area = answered (write_verdict s list area) (file_bytes (length list))
 
 -- the area then: the file, and its later bytes as they were; refused, as lent
 unfoldable pub file_after : List ℕ → List ℕ → List ℕ → List ℕ

@@ -1,16 +1,14 @@
 // The parts of a double-write file, and what it is refused by.
-ghost use Rattle.std.specs.Prelude.{◌≡◌, ◌+◌, ◌<◌, ◌≤◌, length};
-ghost use Rattle.crc32c.specs.Tables.{Tables};
-ghost use Rattle.page.specs.Layout.{page_limit};
-ghost use Rattle.doublewrite.specs.File.{slot_place, file_bytes, slot_count, id_at, is_headed, is_summed, is_marked, ids_fit, file_verdict};
+ghost use Rattle.std.specs.Prelude.{◌≡◌, ◌<◌, ◌≤◌, length, IfOk, IfSome, is_some};
+ghost use Rattle.refusals.specs.Verdict.{told};
+ghost use Rattle.page.specs.Layout.{page_bytes, page_limit};
+ghost use Rattle.doublewrite.specs.File.{slot_place, file_bytes, slot_count, id_at, copy_at, is_headed, is_summed, is_marked, ids_fit, file_verdict};
 
-use crate::marks::{MARK_BYTES, mark, marked};
-use crate::refusal;
+use crate::marks::PageSet;
 use crc32c::inner::{Tables, crc32c};
 use endian::inner::{u32_at, u64_at};
-use refusals::{
-    DOUBLEWRITE_CHECKSUM, DOUBLEWRITE_HEADER, DOUBLEWRITE_MARK, DOUBLEWRITE_PAGES, Verdict,
-};
+use page::PAGE_BYTES;
+use refusals::{Refusal, Refused};
 
 // The bytes of the header, of a slot, and of the footer.
 const HEADER_BYTES: usize = 16;
@@ -36,110 +34,121 @@ pub const CRC_BYTES: usize = 4;
 pub const MARK: u32 = 0xDEAD_BEEF;
 
 // Where slot k stands; behind n slots the footer does.
-pub fn slot_place(k: usize) -> usize
-    requires { k < 4294967296 }
+pub fn slot_place(k: u32) -> usize
     ensures { result ≡ slot_place k }
 {
-    HEADER_BYTES + SLOT_BYTES * k
+    HEADER_BYTES + SLOT_BYTES * k as usize
 }
 
 // The bytes of a file of n slots.
-pub fn file_bytes(n: usize) -> usize
-    requires { n < 4294967296 }
+pub fn file_bytes(n: u32) -> usize
     ensures { result ≡ file_bytes n }
 {
     slot_place(n) + FOOTER_BYTES
 }
 
-// How many slots the header says.
-pub fn count(file: &[u8]) -> usize
-    requires { file_bytes 0 ≤ length file.now }
-    ensures { (result ≡ slot_count file.now) × (result < 4294967296) }
-{
-    u32_at(file, COUNT_AT) as usize
+// A file whose header and size are right: its bytes, and how many slots it has.
+#[derive(Clone, Copy)]
+pub struct File<'a> {
+    bytes: &'a [u8],
+    pub slots: u32,
+    ghost sized: { length bytes.now ≡ file_bytes slots },
 }
 
-// Whether header and size are right.
-pub fn headed(file: &[u8]) -> bool
-    ensures { result ≡ is_headed file.now }
-{
-    if file.len() < HEADER_BYTES + FOOTER_BYTES {
-        return false;
-    }
-    if u64_at(file, 0) != NAME {
-        return false;
-    }
-    if u32_at(file, VERSION_AT) != VERSION {
-        return false;
-    }
-    file.len() == file_bytes(count(file))
-}
-
-// The page that slot k names.
-pub fn id_at(file: &[u8], k: usize) -> u64
-    requires { (k < 4294967296) × (slot_place k + 8 ≤ length file.now) }
-    ensures { result ≡ id_at file.now k }
-{
-    u64_at(file, slot_place(k))
-}
-
-// Whether the checksum behind n slots is right.
-fn summed(t: &Tables, file: &[u8], n: usize) -> bool
-    requires tables { Tables t.now }
-    requires n_bound { (n < 4294967296) × (length file.now ≡ file_bytes n) }
-    ensures { result ≡ is_summed file.now n }
-{
-    let e = slot_place(n);
-    u32_at(file, e) == crc32c(t, &file[..e])
-}
-
-// Whether the mark behind n slots is right.
-fn ended(file: &[u8], n: usize) -> bool
-    requires { (n < 4294967296) × (length file.now ≡ file_bytes n) }
-    ensures { result ≡ is_marked file.now n }
-{
-    u32_at(file, slot_place(n) + CRC_BYTES) == MARK
-}
-
-// Whether each of n slots names one of so many pages, and none that was named before. The first that does not is found behind as many slots as there are pages.
-fn ids_fit(file: &[u8], pages: usize, n: usize) -> bool
-    requires { (n < 4294967296) × (length file.now ≡ file_bytes n) × (pages ≤ page_limit) }
-    ensures { result ≡ ids_fit file.now pages n }
-{
-    let mut named = [0u8; MARK_BYTES];
-    let mut k: usize = 0;
-    while k < n {
-        let i = id_at(file, k);
-        if pages as u64 <= i {
-            return false;
+impl<'a> File<'a> {
+    // The file that some bytes are; None where its header or its size is wrong.
+    pub fn of(bytes: &'a [u8]) -> Option<File<'a>>
+        ensures headed { is_some result ≡ is_headed bytes.now }
+        ensures value { IfSome result (λ f. (f.bytes.now ≡ bytes.now) × (f.slots ≡ slot_count bytes.now)) }
+    {
+        if bytes.len() < HEADER_BYTES + FOOTER_BYTES {
+            return None;
         }
-        if marked(&named, i as usize) {
-            return false;
+        if u64_at(bytes, 0) != NAME {
+            return None;
         }
-        mark(&mut named, i as usize);
-        k += 1;
+        if u32_at(bytes, VERSION_AT) != VERSION {
+            return None;
+        }
+        let slots = u32_at(bytes, COUNT_AT);
+        if bytes.len() != file_bytes(slots) {
+            return None;
+        }
+        Some(File { bytes, slots })
     }
-    true
-}
 
-// What a file for so many pages is refused by.
-pub fn file_verdict(t: &Tables, file: &[u8], pages: usize) -> Verdict
-    requires tables { Tables t.now }
-    requires pages_le_page_limit { pages ≤ page_limit }
-    ensures { result ≡ file_verdict file.now pages }
-{
-    if !headed(file) {
-        return refusal(DOUBLEWRITE_HEADER);
+    // The page that slot k names.
+    pub fn id(&self, k: u32) -> u64
+        requires { k < self.now.slots }
+        ensures { result ≡ id_at self.now.bytes.now k }
+    {
+        u64_at(self.bytes, slot_place(k))
     }
-    let n = count(file);
-    if !summed(t, file, n) {
-        return refusal(DOUBLEWRITE_CHECKSUM);
+
+    // The copy of it.
+    pub fn copy(&self, k: u32) -> &'a [u8]
+        requires { k < self.now.slots }
+        ensures value { result.now ≡ copy_at self.now.bytes.now k }
+        ensures page_len { length result.now ≡ page_bytes }
+    {
+        let at = slot_place(k) + ID_BYTES;
+        &self.bytes[at..at + PAGE_BYTES]
     }
-    if !ended(file, n) {
-        return refusal(DOUBLEWRITE_MARK);
+
+    // Whether the checksum behind its slots is right.
+    #[tactic(auto, unfolding(crate::specs::File::is_summed))]
+    fn summed(&self, t: &Tables) -> bool
+        ensures { result ≡ is_summed self.now.bytes.now self.now.slots }
+    {
+        let e = slot_place(self.slots);
+        u32_at(self.bytes, e) == crc32c(t, &self.bytes[..e])
     }
-    if !ids_fit(file, pages, n) {
-        return refusal(DOUBLEWRITE_PAGES);
+
+    // Whether the mark behind its slots is right.
+    #[tactic(auto, unfolding(crate::specs::File::is_marked))]
+    fn ended(&self) -> bool
+        ensures { result ≡ is_marked self.now.bytes.now self.now.slots }
+    {
+        u32_at(self.bytes, slot_place(self.slots) + CRC_BYTES) == MARK
     }
-    refusal(0)
+
+    // Whether each slot names one of so many pages, and none that was named before. The first that does not is found behind as many slots as there are pages.
+    fn ids_fit(&self, pages: usize) -> bool
+        requires { pages ≤ page_limit }
+        ensures { result ≡ ids_fit self.now.bytes.now pages self.now.slots }
+    {
+        let mut named = PageSet::empty();
+        for k in 0..self.slots {
+            let i = self.id(k);
+            if pages as u64 <= i {
+                return false;
+            }
+            if !named.insert(i as usize) {
+                return false;
+            }
+        }
+        true
+    }
+
+    // The file that some bytes are for so many pages. Refuses by 22 to 25.
+    #[tactic(auto, unfolding(crate::specs::File::file_verdict))]
+    pub fn read(t: &Tables, bytes: &'a [u8], pages: usize) -> Result<File<'a>, Refused>
+        requires { pages ≤ page_limit }
+        ensures verdict { told result ≡ file_verdict bytes.now pages }
+        ensures value { IfOk result (λ f. (f.bytes.now ≡ bytes.now) × (f.slots ≡ slot_count bytes.now)) }
+    {
+        let Some(file) = File::of(bytes) else {
+            return Err(Refusal::DoublewriteHeader.at(0));
+        };
+        if !file.summed(t) {
+            return Err(Refusal::DoublewriteChecksum.at(0));
+        }
+        if !file.ended() {
+            return Err(Refusal::DoublewriteMark.at(0));
+        }
+        if !file.ids_fit(pages) {
+            return Err(Refusal::DoublewritePages.at(0));
+        }
+        Ok(file)
+    }
 }

@@ -3,8 +3,7 @@
 
 ghost use Rattle.std.specs.Prelude.{◌≤◌};
 
-use doublewrite::{Contents, Restored};
-use refusals::{Verdict, Written};
+use refusals::Refused;
 use std::io;
 
 const MAGIC: u64 = 0x0123_4567_89AB_CDEF;
@@ -31,7 +30,7 @@ fn pages() -> [u8; 32768] {
 
 fn file() -> [u8; 32808] {
     let mut f = [0u8; 32808];
-    doublewrite::write(&pages(), &[0, 1], &mut f);
+    let _ = doublewrite::write(&pages(), &[0, 1], &mut f);
     f
 }
 
@@ -58,14 +57,18 @@ fn sealed(at: usize, n: u32) -> [u8; 32808] {
 
 // ---- reading
 
-fn verdict(rt: &impl Print, name: &str, v: Verdict) -> io::Result<()> {
-    print!(rt; "{name}: {} at {}", v.number, v.place)
+// The name of a case, and the refusal's number and place; 0 at 0 for none.
+fn verdict<T>(rt: &impl Print, name: &str, r: &Result<T, Refused>) -> io::Result<()> {
+    match r {
+        Ok(_) => print!(rt; "{name}: 0 at 0"),
+        Err(e) => print!(rt; "{name}: {} at {}", e.refusal.number(), e.place),
+    }
 }
 
 fn read(rt: &impl Print, name: &str, f: &[u8], lent: usize) -> io::Result<()> {
-    let c = doublewrite::read(f, lent);
-    verdict(rt, name, c.verdict)?;
-    println!(rt; ", slots {}", c.slots)
+    let slots = doublewrite::read(f, lent);
+    verdict(rt, name, &slots)?;
+    println!(rt; ", slots {}", slots.unwrap_or(0))
 }
 
 fn header_cases(rt: &impl Print) -> io::Result<()> {
@@ -83,7 +86,7 @@ fn header_cases(rt: &impl Print) -> io::Result<()> {
 
 fn one_byte_long(rt: &impl Print) -> io::Result<()> {
     let mut f = [0u8; 32809];
-    doublewrite::write(&pages(), &[0, 1], &mut f);
+    let _ = doublewrite::write(&pages(), &[0, 1], &mut f);
     read(rt, "one byte long", &f, 2)
 }
 
@@ -141,11 +144,10 @@ fn id_cases(rt: &impl Print) -> io::Result<()> {
 
 // The name of a case, the answer, and the verdict on the pages afterwards.
 fn repair(rt: &impl Print, name: &str, mut a: [u8; 32768], f: &[u8]) -> io::Result<()> {
-    let r = doublewrite::repair(MAGIC, &mut a, f);
-    verdict(rt, name, r.verdict)?;
-    print!(rt; ", restored {}", r.count)?;
-    let v = page::verify(MAGIC, &a);
-    verdict(rt, ", pages", v)?;
+    let restored = doublewrite::repair(MAGIC, &mut a, f);
+    verdict(rt, name, &restored)?;
+    print!(rt; ", restored {}", restored.unwrap_or(0))?;
+    verdict(rt, ", pages", &page::verify(MAGIC, &a))?;
     println!(rt)
 }
 
@@ -179,8 +181,8 @@ fn copy_cases(rt: &impl Print) -> io::Result<()> {
 
 fn area_cases(rt: &impl Print) -> io::Result<()> {
     let mut a = torn(20000, 1);
-    let r = doublewrite::repair(MAGIC, &mut a[0..32767], &file());
-    verdict(rt, "one byte of the pages short", r.verdict)?;
+    let restored = doublewrite::repair(MAGIC, &mut a[0..32767], &file());
+    verdict(rt, "one byte of the pages short", &restored)?;
     println!(rt)
 }
 
@@ -193,9 +195,9 @@ fn write(
     list: &[u64],
     area: &mut [u8],
 ) -> io::Result<()> {
-    let w = doublewrite::write(pages, list, area);
-    verdict(rt, name, w.verdict)?;
-    println!(rt; ", length {}", w.length)
+    let length = doublewrite::write(pages, list, area);
+    verdict(rt, name, &length)?;
+    println!(rt; ", length {}", length.unwrap_or(0))
 }
 
 fn list_cases(rt: &impl Print) -> io::Result<()> {

@@ -1,13 +1,12 @@
 -- Lists of bytes: what keeps them so, and the range of a number read from one.
 -- Assumes nothing.
-use mathlib.Core.Path.{◌≡◌, refl, sym, ap, ◌∙◌}
-use Prim.Native.Nat.{ℕ, zero, suc, ◌+◌, ◌*◌, ◌/◌, ◌%◌, ◌^◌, ◌≤◌, ◌<◌}
+use Prim.Native.Nat.{ℕ, zero, suc, ◌+◌, ◌/◌, ◌^◌, ◌≤◌, ◌<◌}
 use native.Mathlib.Nat.{pow-suc, one-le-pow}
 use native.Mathlib.Omega.{arith}
 use mathlib.Core.List.{List, [], ◌∷◌, ◌++◌}
 use lib.ListN.{length, take, drop, get_or, replicate}
 use lib.Seq.{get_or-drop, take_all}
-use Rattle.endian.specs.Numbers.{part, bytes_of, number_of, number_at, Bytes}
+use Rattle.endian.specs.Numbers.{bytes_of, number_of, number_at, Bytes}
 
 tail : {x : ℕ} {l : List ℕ} → Bytes (x ∷ l) → Bytes l
 tail b = record { at = λ i. b.at (suc i) }

@@ -1,14 +1,14 @@
 -- Laws of little-endian numbers, for every width: what a number's bytes read as, and a number of several bytes taken apart.
 -- Assumes nothing.
-use mathlib.Core.Path.{◌≡◌, refl, sym, ap, ap₂, ◌∙◌}
-use Prim.Native.Nat.{ℕ, zero, suc, ◌+◌, ◌*◌, ◌/◌, ◌%◌, ◌^◌, ◌≤◌, ◌<◌}
-use native.Mathlib.Nat.{pow-suc, pow-succ', one-le-pow, zero-add, suc-add, add-suc, div-div-eq-div-mul, div-one}
+use mathlib.Core.Path.{◌≡◌, refl, ap}
+use Prim.Native.Nat.{ℕ, zero, suc, ◌+◌, ◌*◌, ◌/◌, ◌%◌, ◌^◌, ◌<◌}
+use native.Mathlib.Nat.{pow-suc, pow-succ', one-le-pow, zero-add, suc-add, div-div-eq-div-mul, div-one}
 use native.Mathlib.Omega.{arith}
 use lib.Arith.{mod-mul}
 use mathlib.Core.List.{List, [], ◌∷◌, ◌++◌}
 use lib.ListN.{length, take, drop}
-use lib.Seq.{take-nil, drop-nil, drop-drop}
-use Rattle.endian.specs.Numbers.{part, bytes_of, number_of, number_at}
+use lib.Seq.{take-nil, drop-drop}
+use Rattle.endian.specs.Numbers.{bytes_of, number_of, number_at}
 
 pub length-bytes_of : (w n : ℕ) → length (bytes_of w n) ≡ w
 unfolding bytes_of

@@ -3,38 +3,41 @@ ghost use Rattle.std.specs.Prelude.{◌≡◌, ℕ, ◌+◌, ◌≤◌, ◌<◌,
 ghost use Rattle.std.proofs.Math.Seq.{paste};
 ghost use Rattle.endian.specs.Numbers.{number_of, number_at, bytes_of};
 
-fn wide(x: u8) -> u16
-    ensures { (result ≡ x) × (result < 256) }
-{
-    x as u16
-}
-
 pub fn u16_at(s: &[u8], at: usize) -> u16
     requires { at + 2 ≤ length s.now }
     ensures { result ≡ number_at 2 at s.now }
 {
-    wide(s[at]) + 256 * wide(s[at + 1])
+    u16::from_le_bytes([s[at], s[at + 1]])
 }
 
 pub fn u24_at(s: &[u8], at: usize) -> u32
     requires { at + 3 ≤ length s.now }
     ensures { result ≡ number_at 3 at s.now }
 {
-    (u16_at(s, at) as u32) + 65536 * (wide(s[at + 2]) as u32)
+    u32::from_le_bytes([s[at], s[at + 1], s[at + 2], 0])
 }
 
 pub fn u32_at(s: &[u8], at: usize) -> u32
     requires { at + 4 ≤ length s.now }
     ensures { result ≡ number_at 4 at s.now }
 {
-    (u16_at(s, at) as u32) + 65536 * (u16_at(s, at + 2) as u32)
+    u32::from_le_bytes([s[at], s[at + 1], s[at + 2], s[at + 3]])
 }
 
 pub fn u64_at(s: &[u8], at: usize) -> u64
     requires { at + 8 ≤ length s.now }
     ensures { result ≡ number_at 8 at s.now }
 {
-    (u32_at(s, at) as u64) + 4294967296 * (u32_at(s, at + 4) as u64)
+    u64::from_le_bytes([
+        s[at],
+        s[at + 1],
+        s[at + 2],
+        s[at + 3],
+        s[at + 4],
+        s[at + 5],
+        s[at + 6],
+        s[at + 7],
+    ])
 }
 
 // The number of the bytes from place at to the end, of which there are at most seven.
@@ -42,12 +45,9 @@ pub fn short_at(s: &[u8], at: usize) -> u64
     requires { length s.now < at + 8 }
     ensures { result ≡ number_of (drop at s.now) }
 {
-    let mut i = s.len();
     let mut n: u64 = 0;
-    while at < i {
-        i -= 1;
-        let b = s[i] as u64;
-        n = 256 * n + b;
+    for i in (at..s.len()).rev() {
+        n = 256 * n + s[i] as u64;
     }
     n
 }
@@ -96,9 +96,5 @@ pub fn copy_in(dst: &mut [u8], at: usize, src: &[u8])
     requires { at + length src.now ≤ length dst.old }
     ensures { dst.new ≡ paste dst.old at src.now (length src.now) }
 {
-    let mut j = 0;
-    while j < src.len() {
-        dst[at + j] = src[j];
-        j += 1;
-    }
+    dst[at..at + src.len()].copy_from_slice(src);
 }

@@ -7,16 +7,18 @@ ghost use Rattle.endian.specs.Numbers.{number_at, written};
 pub mod inner;
 
 // A log sequence number.
-#[derive(Clone, Copy)]
+#[derive(Clone, Copy, PartialEq, Eq, PartialOrd, Ord)]
 pub struct Lsn(pub u64);
 
 // A transaction's number; 0 is the transaction of changes that commit by themselves.
-#[derive(Clone, Copy)]
+#[derive(Clone, Copy, PartialEq, Eq, PartialOrd, Ord)]
 pub struct TxnNumber(pub u64);
 
 // A page's number: its index among the lent pages.
-#[derive(Clone, Copy)]
+#[derive(Clone, Copy, PartialEq, Eq, PartialOrd, Ord)]
 pub struct PageNumber(pub u64);
+
+// The three readers and the three writers below stay one by one: they are entries by name (docs/API.md), and the bool of a writer is its whole answer there.
 
 // Whether w bytes stand at place at of a slice of len bytes.
 fn within(len: usize, at: usize, w: usize) -> bool

@@ -16,7 +16,10 @@ use Rattle.wal.specs.Walk.{entries}
 use Rattle.wal.specs.Prefix.{said, Stands}
 use Rattle.wal.proofs.Prefix.{stands_at}
 use Rattle.rules.specs.Recover.{outcome_of}
-use Rattle.fates.specs.Fate.{Kept, answers, Memo, in_front}
+use Rattle.std.specs.Prelude.{Some}
+use Rattle.fates.specs.declared.Outcome.{Outcome}
+use Rattle.fates.specs.declared.Outcome.TheVariants.{Committed, RolledBack}
+use Rattle.fates.specs.Fate.{outcome_number, Kept, answers, Memo, in_front}
 
 kept-none : (s : List ℕ) → Kept s 0
 kept-none s = record { within = λ h. absurd (omega arith); is = λ h. absurd (omega arith) }
@@ -47,3 +50,7 @@ kept_at {s} {p} o h e l =
     let b : (4 * p + o) % 4 ≡ o = omega arith in
     let k = stands_at h in
     record { within = λ z. rw a (omega (arith, k.room, k.low)); is = λ z. rw (a, b) e }
+
+pub kept-some : {s : List ℕ} {p : ℕ} (x : Outcome) → Stands s p → outcome_of (entries s) (said s p).txn ≡ outcome_number (Some x) → Kept s (4 * p + outcome_number (Some x))
+kept-some Committed h e = kept_at 1 h e (omega arith)
+kept-some RolledBack h e = kept_at 2 h e (omega arith)

@@ -6,7 +6,7 @@ use Prim.Native.Nat.{ℕ, ◌+◌, ◌≤◌}
 use native.Mathlib.Omega.{arith}
 use mathlib.Core.List.{List, [], ◌∷◌, ◌++◌}
 use lib.Dec.{eqb}
-use borrow.Author.Tests.{eqb-true, eq-eqb, ne_eqb}
+use borrow.Author.Tests.{eqb-true, eqb-false, eq-eqb, ne_eqb}
 use Rattle.endian.specs.Pick.{pick}
 use Rattle.wal.specs.Entry.{Entry, commit, rollback, entry_of}
 use Rattle.wal.specs.Read.{length_at}
@@ -21,7 +21,10 @@ use Rattle.rules.proofs.Tests.{both_true, both-none, either-false}
 use Rattle.rules.proofs.OrderLaws.{InTurn}
 use Rattle.states.specs.State.{state_after, state_of}
 use Rattle.states.proofs.States.{state-snoc}
-use Rattle.fates.specs.Fate.{Ordered, ending_of}
+use Rattle.std.specs.Prelude.{Some}
+use Rattle.fates.specs.Fate.{Ordered, outcome_number, ending_by, ending_of}
+use Rattle.fates.specs.declared.Outcome.{Outcome}
+use Rattle.fates.specs.declared.Outcome.TheVariants.{Committed, RolledBack}
 use Rattle.fates.proofs.Turns.{AllTold, told-next, own-going, turn_at, passes_at}
 
 -- ---- tests on entries
@@ -84,6 +87,15 @@ fate-is {s} {p} t o m h e n =
 
 -- ---- one turn of the look forward
 
+pub outcome-le : (es : List Entry) (t : ℕ) → outcome_of es t ≤ 2
+unfolding outcome_of
+outcome-le es t = go (any (is commit t) es) (any (is rollback t) es)
+  where
+    go : (c r : Bool) → pick {A = ℕ} c 1 (pick r 2 0) ≤ 2
+    go true r = omega arith
+    go false true = omega arith
+    go false false = omega arith
+
 pub ending-le : (t : ℕ) (es : List Entry) → ending_of t es ≤ 2
 unfolding ending_of
 ending-le t [] = omega arith
@@ -111,15 +123,29 @@ module _ (s : List ℕ) (p t : ℕ) (h : Stands s p) (v : EntryView) (e : v ≡ 
   unfolding ending_of entry_of
   other-here o = rw (onward-next s h, of_other commit t (said s p) (rw (← e) (ne_eqb _ _ o)), of_other rollback t (said s p) (rw (← e) (ne_eqb _ _ o)))
 
+  -- by what its type says
+  pub found-here : v.txn.0 ≡ t → (x : Outcome) → outcome_number (Some x) ≡ ending_by v.kind → outcome_number (Some x) ≡ ending_of t (onward s p)
+  found-here o x q = go (eqb v.kind commit) refl (eqb v.kind rollback) refl x q
+    where
+      go : (a : Bool) → eqb v.kind commit ≡ a → (b : Bool) → eqb v.kind rollback ≡ b → (x : Outcome) → outcome_number (Some x) ≡ pick a 1 (pick b 2 0) → outcome_number (Some x) ≡ ending_of t (onward s p)
+      go true k b l x q = q ∙ commit-here o (eqb-true _ _ k)
+      go false k true l x q = q ∙ rollback-here o (eqb-true _ _ l)
+      go false k false l Committed q = absurd (omega arith)
+      go false k false l RolledBack q = absurd (omega arith)
+
+  pub passed-here : v.txn.0 ≡ t → 0 ≡ ending_by v.kind → ending_of t (onward s p) ≡ ending_of t (onward s (p + length_at s p))
+  passed-here o q = go (eqb v.kind commit) refl (eqb v.kind rollback) refl q
+    where
+      go : (a : Bool) → eqb v.kind commit ≡ a → (b : Bool) → eqb v.kind rollback ≡ b → ◌≡◌ {A = ℕ} 0 (pick a 1 (pick b 2 0)) → ending_of t (onward s p) ≡ ending_of t (onward s (p + length_at s p))
+      go true k b l q = absurd (omega arith)
+      go false k true l q = absurd (omega arith)
+      go false k false l q = going-here o (eqb-false _ _ k) (eqb-false _ _ l)
+
 -- the outcome of a transaction whose ending stands at a place
 module _ {s : List ℕ} {p : ℕ} (t : ℕ) (o : Ordered s) (m : Met s p) (h : Stands s p) (e : t ≡ (said s p).txn) (n : t ≡ 0 → ⊥) where
-  pub ending-commit : commit ≡ (said s p).kind → outcome_of (entries s) t ≡ 1
+  pub ending-told : (x : Outcome) → outcome_number (Some x) ≡ ending_by (said s p).kind → outcome_of (entries s) t ≡ outcome_number (Some x)
   unfolding entry_of
-  ending-commit k = fate-is t o m h e n ∙ sym (commit-here s p t h (entry_in s p) refl (sym e) (sym k))
-
-  pub ending-rollback : rollback ≡ (said s p).kind → outcome_of (entries s) t ≡ 2
-  unfolding entry_of
-  ending-rollback k = fate-is t o m h e n ∙ sym (rollback-here s p t h (entry_in s p) refl (sym e) (sym k))
+  ending-told x q = fate-is t o m h e n ∙ sym (found-here s p t h (entry_in s p) refl (sym e) x q)
 
 pub ending-none : (t : ℕ) (s : List ℕ) (p : ℕ) → p ≡ end_of s → 0 ≡ ending_of t (onward s p)
 unfolding ending_of

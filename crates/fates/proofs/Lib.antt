@@ -1,3 +1,4 @@
 pub mod Turns
 pub mod Endings
 pub mod Answers
+pub mod ByKind

@@ -2,3 +2,10 @@
 #![tactic(auto)]
 
 pub mod inner;
+
+// How a transaction has ended.
+#[derive(Clone, Copy, PartialEq, Eq)]
+pub enum Outcome {
+    Committed,
+    RolledBack,
+}

@@ -1,46 +1,48 @@
 -- The cells of one page, as code finds them, and what they decide. Assumes nothing.
-use Prim.Native.Nat.{ℕ, ◌+◌, ◌-◌, ◌/◌, ◌%◌, ◌≤◌, ◌<◌, max}
-use mathlib.Core.Path.{◌≡◌, refl, sym, ap, subst, ◌∙◌}
-use mathlib.Core.Bool.{Bool, true}
+use Prim.Native.Nat.{ℕ, ◌/◌, ◌%◌, ◌≤◌, ◌<◌, max}
+use mathlib.Core.Path.{◌≡◌, sym, ap, subst, ◌∙◌}
+use mathlib.Core.Bool.{Bool}
 use mathlib.Core.List.{List}
-use native.Mathlib.Numerals.{add-one}
 use native.Mathlib.Omega.{arith}
 use lib.ListN.{get_or}
 use borrow.Author.Tests.{eq-eqb, ne_eqb}
 use Rattle.wal.specs.Entry.{Entry, entry_of}
 use Rattle.wal.specs.Walk.{entries, views}
-use Rattle.wal.specs.Prefix.{Stands, entry_in, said}
+use Rattle.wal.specs.Prefix.{entry_in, said}
 use Rattle.wal.specs.declared.EntryView.{EntryView}
 use Rattle.wal.proofs.Prefix.{met-from}
 use Rattle.page.specs.Layout.{body_bytes, count_of, slot_at}
 use Rattle.page.specs.Packed.{room_for}
 use Rattle.page.proofs.Tables.{length-tab}
-use Rattle.rules.specs.Shape.{Change, is_change, is_shaped, before_of, after_of}
+use Rattle.rules.specs.Shape.{Change, before_of, after_of}
 use Rattle.rules.specs.Mend.{committed, winner, top_of, decided, slots_for}
 use Rattle.rules.specs.Row.{Standing, in_log, before_at, after_at, standing_by}
-use Rattle.rules.proofs.Tests.{false-true}
 use Rattle.rules.proofs.Slots.{decided-untouched}
 use Rattle.rules.proofs.Standings.{changes-by, none-past}
 use Rattle.fates.specs.Fate.{Ordered}
 use Rattle.fates.proofs.Turns.{turn_at, passes_at}
-use Rattle.cells.specs.Cell.{start_of, Starts}
-use Rattle.cells.proofs.CellLaws.{start-next}
 use Rattle.decide.specs.Decide.{won, ChangeAt, Decided}
-use Rattle.decide.specs.Lists.{PageDecided}
 use Rattle.decide.proofs.Marks.{won-none}
 use Rattle.decide.proofs.Pages.{cell-wins}
-use Rattle.images.specs.declared.Image.{Image}
-use Rattle.images.specs.Tuples.{InLog, InPage, Stood, LoggedAt, PagedAt, image_won, standing_won, Placed}
+use Rattle.change.specs.declared.Image.{Image}
+use Rattle.change.specs.declared.Source.TheVariants.{Log, Page}
+use Rattle.change.specs.Places.{ChangeAt as Changed}
+use Rattle.change.specs.Tuples.{InLog, Stood, LoggedAt}
+use Rattle.images.specs.Tuples.{InPage, PagedAt, image_won, standing_won, Placed}
 use Rattle.images.specs.Page.{PageCells}
 
 -- ---- a change, and what a cell says of it
 
-pub shaped-at : {s : List ℕ} {p : ℕ} → Ordered s → ChangeAt s p → Stands s p × ((is_change (said s p) ≡ true) × (is_shaped (said s p) ≡ true))
-shaped-at o a = (a.stands, (a.change, (passes_at (turn_at o a.met) a.stands).shaped))
+pub shaped-at : {s : List ℕ} {p : ℕ} → Ordered s → ChangeAt s p → Changed s p
+shaped-at o a = record { met = a.met; stands = a.stands; change = a.change; shaped = (passes_at (turn_at o a.met) a.stands).shaped }
+
+-- a source is one of two
+one-source : Page ≡ Log → ⊥
+one-source e = cc
 
 -- the image m is what the cell c names, in the log
 abbrev Wins : List ℕ → ℕ → Image → Type 0
-Wins s c m = ((v : List ℕ) → InLog s m (image_won s c v)) × ((m.logged ≡ true) × ((d : Standing) → standing_won s c d ≡ in_log m.place))
+Wins s c m = ((v : List ℕ) → InLog s m (image_won s c v)) × ((m.source ≡ Log) × ((d : Standing) → standing_won s c d ≡ in_log m.place))
 
 module _ {s : List ℕ} (c : ℕ) (a : ChangeAt s (c / 2)) where
   some : c ≡ 0 → ⊥
@@ -71,20 +73,7 @@ standing-past : (s : List ℕ) (i k : ℕ) → top_of i (entries s) ≤ k → (d
 unfolding standing_by
 standing-past s i k l d = rw (none-past s i k (λ v. in_log (before_at v)) (λ v. in_log (after_at v)) (views s) l)
 
--- ---- the starts of pages, and how high the page's touched slots go
-
-between : (es : List Entry) (starts : List ℕ) (i : ℕ) → get_or starts i 0 ≡ start_of es i → get_or starts (i + 1) 0 ≡ start_of es (i + 1) → get_or starts (i + 1) 0 ≡ get_or starts i 0 + top_of i es
-between es starts i a b = omega (arith, rw (← add-one i) at (start-next es i))
-
-module _ {es : List Entry} {n : ℕ} {starts : List ℕ} (t : Starts es n starts) (i : ℕ) (h : i < n) where
-  start-after : get_or starts (i + 1) 0 ≡ get_or starts i 0 + top_of i es
-  start-after = between es starts i (t.at i (omega arith)) (t.at (i + 1) (omega arith))
-
-  pub top-asked : n ≤ 4096 → (i < 4096) × (get_or starts i 0 ≤ get_or starts (i + 1) 0)
-  top-asked q = (omega arith, omega (arith, start-after))
-
-  pub top-found : {x : ℕ} → x ≡ get_or starts (i + 1) 0 - get_or starts i 0 → x ≡ top_of i es
-  top-found e = omega (arith, start-after)
+-- ---- how high the page's touched slots go
 
 -- a page that has room for its slots has room for four bytes of each
 pub top-fits : (c : ℕ → Bool) (es : List Entry) (i : ℕ) (p : List ℕ) → room_for (slots_for c es i p) ≤ body_bytes → top_of i es ≤ 4080
@@ -97,27 +86,11 @@ Slot s p i k m = Stood s p m (decided (committed (entries s)) (entries s) i k (s
 
 -- ---- the cells of a page
 
-pub page-cells : {s starts cells : List ℕ} {n : ℕ} (i : ℕ) → Starts (entries s) n starts → i < n → n ≤ 4096 → top_of i (entries s) ≤ 4080 → PageDecided s i cells → PageCells s i starts cells
-page-cells i t h q fit d = record { start = t.at i (omega arith); next = t.at (i + 1) (omega arith); few = omega arith; fits = fit; is = d }
-
-module _ {s starts cells : List ℕ} {i : ℕ} (d : PageCells s i starts cells) where
-  next_start : get_or starts (i + 1) 0 ≡ get_or starts i 0 + top_of i (entries s)
-  next_start = between (entries s) starts i d.start d.next
-
-  pub starts-rise : get_or starts i 0 ≤ get_or starts (i + 1) 0
-  starts-rise = omega (arith, next_start)
-
-  pub top-is : {t : ℕ} → t ≡ get_or starts (i + 1) 0 - get_or starts i 0 → t ≡ top_of i (entries s)
-  top-is e = omega (arith, next_start)
-
-  -- how many slots the page is to have
-  pub slots-are : (c : ℕ) → max c (get_or starts (i + 1) 0 - get_or starts i 0) ≡ max c (top_of i (entries s))
-  slots-are c = ap (max c) (top-is refl)
-
+module _ {s cells : List ℕ} {i top : ℕ} (d : PageCells s i top cells) where
   -- a touched slot, and its cell
-  module _ {k : ℕ} (touched : k < top_of i (entries s)) where
-    pub cell-small : k < 4080
-    cell-small = omega (arith, d.fits)
+  module _ {k : ℕ} (below : k < top) where
+    touched : k < top_of i (entries s)
+    touched = omega (arith, d.top-is)
 
     pub change-named : (get_or cells k 0 ≡ 0 → ⊥) → ChangeAt s (get_or cells k 0 / 2)
     change-named n = (d.is.at k touched).at (omega arith)
@@ -130,8 +103,8 @@ module _ {s starts cells : List ℕ} {i : ℕ} (d : PageCells s i starts cells) 
       subst (Stood s p m) (image-decided says (slot_at p k)) ((h.0 (slot_at p k)).stood p),
       record {
         won = λ e x. sym (standing-decided says x) ∙ h.1.1 x;
-        kept = λ e x. false-true (sym e ∙ h.1.0);
-        at = λ e. false-true (sym e ∙ h.1.0);
+        kept = λ e x. absurd (one-source (sym e ∙ h.1.0));
+        at = λ e. absurd (one-source (sym e ∙ h.1.0));
       },
     )
 
@@ -139,7 +112,7 @@ module _ {s starts cells : List ℕ} {i : ℕ} (d : PageCells s i starts cells) 
     slot-left {p} {m} z h = (
       subst (Stood s p m) (sym (none (λ w. before_of (entry_of s w)) (λ w. after_of (entry_of s w)) (slot_at p k)) ∙ image-decided says (slot_at p k)) (h.0.stood s),
       record {
-        won = λ e x. false-true (sym h.1.paged ∙ e);
+        won = λ e x. absurd (one-source (sym h.1.paged ∙ e));
         kept = λ e x. sym (standing-decided says x) ∙ none (λ w. in_log (before_at w)) (λ w. in_log (after_at w)) x;
         at = λ e. h.1.at;
       },
@@ -149,8 +122,8 @@ module _ {s starts cells : List ℕ} {i : ℕ} (d : PageCells s i starts cells) 
         none b a x = ap (λ (c : ℕ). won b a s c x) z ∙ won-none b a s x
 
   -- a slot that is not touched
-  pub slot-untouched : {k : ℕ} {p : List ℕ} {m : Image} → top_of i (entries s) ≤ k → InPage p m (slot_at p k) × PagedAt p k m → Slot s p i k m
+  pub slot-untouched : {k : ℕ} {p : List ℕ} {m : Image} → top ≤ k → InPage p m (slot_at p k) × PagedAt p k m → Slot s p i k m
   slot-untouched {k} {p} {m} l h = (
-    subst (Stood s p m) (sym (decided-untouched i (committed (entries s)) (entries s) k (slot_at p k) l)) (h.0.stood s),
-    record { won = λ e x. false-true (sym h.1.paged ∙ e); kept = λ e x. standing-past s i k l x; at = λ e. h.1.at },
+    subst (Stood s p m) (sym (decided-untouched i (committed (entries s)) (entries s) k (slot_at p k) (omega (arith, d.top-is)))) (h.0.stood s),
+    record { won = λ e x. absurd (one-source (sym h.1.paged ∙ e)); kept = λ e x. standing-past s i k (omega (arith, d.top-is)) x; at = λ e. h.1.at },
   )

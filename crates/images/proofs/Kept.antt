@@ -9,7 +9,7 @@ use Rattle.endian.proofs.Places.{part-drop}
 use Rattle.page.specs.Layout.{body_bytes, count_of, body_of, slot_off, slot_len, slot_at}
 use Rattle.page.specs.Good.{SlotGood}
 use Rattle.page.proofs.Slots.{slot-past, slot-in}
-use Rattle.images.specs.declared.Image.{Image}
+use Rattle.change.specs.declared.Image.{Image}
 use Rattle.images.specs.Tuples.{paged, InPage, PagedAt}
 use Rattle.images.specs.Page.{Sound}
 use Rattle.images.proofs.Standing.{in-page}

@@ -1,4 +1,3 @@
 pub mod Standing
-pub mod Changes
 pub mod Kept
 pub mod Deciding

@@ -1,30 +1,15 @@
--- What bytes of the log or of a page stand for, as they are or deleted. Assumes nothing.
+-- What bytes of a page stand for, as they are. Assumes nothing.
 use Prim.Native.Nat.{ℕ, ◌+◌, ◌≤◌}
-use mathlib.Core.Path.{◌≡◌, refl, sym, ap, ◌∙◌}
+use mathlib.Core.Path.{◌≡◌, sym, ap, ◌∙◌}
 use mathlib.Core.List.{List}
-use native.Mathlib.Omega.{arith}
 use lib.ListN.{length}
 use Rattle.endian.specs.Numbers.{part}
 use Rattle.crc32c.proofs.Runs.{part_length}
-use Rattle.rules.specs.Shape.{stamped}
-use Rattle.rules.proofs.Tests.{false-true}
-use Rattle.rules.proofs.ImageLaws.{stamped-length}
-use Rattle.images.specs.declared.Image.{Image}
-use Rattle.images.specs.Tuples.{tuple_in, logged, deleted, paged, InLog, InPage}
+use Rattle.change.specs.declared.Image.{Image}
+use Rattle.change.specs.Tuples.{tuple_in}
+use Rattle.images.specs.Tuples.{paged, InPage}
 
 module _ {s t : List ℕ} (a n : ℕ) (room : a + n ≤ length s) (short : n ≤ 16320) where
-  pub in-log : {m : Image} → m ≡ logged a n → part a n s ≡ t → InLog s m t
-  unfolding tuple_in
-  in-log e f =
-      rw e
-      (record {
-        stood = λ p. record {
-          is = f;
-          lies = record { within = room; short = short; headed = λ q. false-true q };
-          long = sym (part_length s a n room) ∙ ap length f;
-        };
-      })
-
   pub in-page : {m : Image} → m ≡ paged a n → part a n s ≡ t → InPage s m t
   unfolding tuple_in
   in-page e f =
@@ -32,20 +17,7 @@ module _ {s t : List ℕ} (a n : ℕ) (room : a + n ≤ length s) (short : n ≤
       (record {
         stood = λ p. record {
           is = f;
-          lies = record { within = room; short = short; headed = λ q. false-true q };
+          lies = record { within = room; short = short; headed = λ x q. cc };
           long = sym (part_length s a n room) ∙ ap length f;
-        };
-      })
-
-  pub in-log-deleted : (x : ℕ) {m : Image} → 24 ≤ n → m ≡ deleted a n x → stamped x (part a n s) ≡ t → InLog s m t
-  unfolding tuple_in
-  in-log-deleted x h e f =
-      let l = part_length s a n room in
-      rw e
-      (record {
-        stood = λ p. record {
-          is = f;
-          lies = record { within = room; short = short; headed = λ q. (refl, h) };
-          long = sym (stamped-length x (part a n s) (omega arith) ∙ l) ∙ ap length f;
         };
       })

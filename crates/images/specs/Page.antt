@@ -1,19 +1,16 @@
 -- Internal: what is known of one page once its slots are decided.
-use Rattle.std.specs.Prelude.{ℕ, ◌+◌, ◌≤◌, ◌<◌, ◌≡◌, List, length, get_or}
+use Rattle.std.specs.Prelude.{ℕ, ◌≤◌, ◌<◌, ◌≡◌, List, length}
 use Rattle.wal.specs.Walk.{entries}
 use Rattle.page.specs.Layout.{page_bytes, body_bytes, page_at}
 use Rattle.page.specs.Packed.{room_for}
 use Rattle.page.specs.Good.{DataGood}
 use Rattle.rules.specs.Mend.{committed, top_of, slots_for}
-use Rattle.cells.specs.Cell.{start_of}
 use Rattle.decide.specs.Lists.{PageDecided}
 
--- where the cells of page i would start and end among those of all pages, and that each of its cells says what is decided of its slot
-pub record PageCells (s : List ℕ) (i : ℕ) (starts cells : List ℕ) : Type 0 where
-  pub start : get_or starts i 0 ≡ start_of (entries s) i
-  pub next : get_or starts (i + 1) 0 ≡ start_of (entries s) (i + 1)
-  pub few : i < 4096
-  pub fits : top_of i (entries s) ≤ 4080
+-- page i has no more touched slots than cells, top is one more than the highest of them, and each cell says what is decided of its slot
+pub record PageCells (s : List ℕ) (i top : ℕ) (cells : List ℕ) : Type 0 where
+  pub top-is : top ≡ top_of i (entries s)
+  pub fits : top ≤ 4080
   pub is : PageDecided s i cells
 
 -- a good Data page

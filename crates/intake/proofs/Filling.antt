@@ -6,9 +6,10 @@ use native.Mathlib.Omega.{arith}
 use mathlib.Core.List.{List, [], ◌∷◌, ◌++◌, append_assoc}
 use lib.ListN.{length, take, set, length-set, length-append}
 use lib.Seq.{length-take-le, get_or-set_same}
-use Rattle.intake.specs.Places.{low_at, high_at, mark_at, wide, Has, Place, Places, places_from}
-use Rattle.intake.specs.Blocks.{Filled, Firstly, nowhere, least_pair}
+use Rattle.intake.specs.Places.{low_at, high_at, mark_at, wide, Place, Places, places_from}
+use Rattle.intake.specs.Blocks.{Filled, Firstly, least_pair}
 use Rattle.intake.specs.declared.pairs.Block.{Block}
+use Rattle.std.specs.Prelude.{Option, None}
 use Rattle.intake.proofs.Counting.{take_next, places-none, places-more}
 
 -- what stands in front of a stored element is kept
@@ -51,19 +52,16 @@ module _ {s : List ℕ} {i₀ k₀ : ℕ} {a₀ a : List ℕ} {i k len : ℕ} (p
 -- ---- a filled block
 
 module _ {s : List ℕ} {i k : ℕ} {a : List ℕ} {b : Block} (f : Filled s i k a b) where
-  pub block-small : (x : ℕ) → Has x (take b.len a) → x < nowhere
-  block-small x h = (f.places.at x h).small
-
   -- there are fewer behind it
   pub block-less : (b.len ≡ 0 → ⊥) → length (places_from s b.page b.slot) < length (places_from s i k)
   block-less n =
       omega (arith, ap length f.goes, length-append (take b.len a) (places_from s b.page b.slot), length-take-le b.len a f.within)
 
 -- no places have no pair
-pub pairs-over : (k : ℕ → ℕ) (l : List ℕ) → l ≡ [] → record { first = nowhere; second = nowhere } ≡ least_pair k l
+pub pairs-over : (k : ℕ → ℕ) (l : List ℕ) → l ≡ [] → None ≡ least_pair k l
 unfolding least_pair
 pairs-over k l e = rw e
 
 -- the first place of a mark, by its halves as code reads them
-pub firstly-halves : (s : List ℕ) (x low high : ℕ) (l : List ℕ) {f : ℕ} → low ≡ low_at s x → high ≡ high_at s x → Firstly (mark_at s) (wide low high) l f → Firstly (mark_at s) (mark_at s x) l f
-firstly-halves s x low high l {f} p q w = subst (λ (t : ℕ). Firstly (mark_at s) t l f) (rw (p, q)) w
+pub firstly-halves : (s : List ℕ) (x low high : ℕ) (l : List ℕ) (f : Option ℕ) → low ≡ low_at s x → high ≡ high_at s x → Firstly (mark_at s) (wide low high) l f → Firstly (mark_at s) (mark_at s x) l f
+firstly-halves s x low high l f p q w = subst (λ (t : ℕ). Firstly (mark_at s) t l f) (rw (p, q)) w

@@ -1,5 +1,4 @@
 pub mod Counting
-pub mod Parting
 pub mod Sorting
 pub mod Halves
 pub mod OrderRows

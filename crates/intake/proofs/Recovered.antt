@@ -13,7 +13,7 @@ use Rattle.wal.specs.Entry.{Entry}
 use Rattle.wal.specs.Walk.{entries}
 use Rattle.page.specs.Layout.{page_bytes, data_type, pages_in, page_at, type_of, count_of, slot_at, payload_of}
 use Rattle.page.specs.Fault.{verdict_of}
-use Rattle.page.specs.Rows.{visible, row, at_or_after}
+use Rattle.page.specs.Rows.{visible, row}
 use Rattle.page.proofs.FaultLaws.{sound-good}
 use Rattle.page.proofs.ListedRows.{InSlot}
 use Rattle.page.proofs.Picks.{never}
@@ -34,8 +34,8 @@ use Rattle.history.specs.History.{ledger}
 use Rattle.history.specs.Demand3.{History, file, Stands, HasFelt}
 use Rattle.history.proofs.Demand3.{bytes-file}
 use Rattle.history.proofs.Exact.{exact}
-use Rattle.intake.specs.Orders.{mark_of, order_found}
-use Rattle.intake.proofs.Findings.{there-found}
+use Rattle.intake.specs.Orders.{mark_of}
+use Rattle.intake.proofs.Findings.{FoundBy, there-found}
 use Rattle.intake.proofs.Marks.{begins-bears}
 
 -- accepted recovery leaves good pages, as many as it was lent, and Data pages as Data pages
@@ -93,9 +93,7 @@ module _ (h : History) (magic floor : ℕ) (moment : ℕ → ℕ) (P : List ℕ)
   abbrev held : List ℕ
   held = ledger h.pages (entries (file h c z)) i k
 
-  pub order-kept : (mark : List ℕ) → visible held ≡ true → 24 ≤ length (payload_of held) → take 16 (payload_of held) ≡ mark
-      → ((order_found magic recovered (mark_of mark)).found ≡ true)
-      × (at_or_after (order_found magic recovered (mark_of mark)).order.page.0 (order_found magic recovered (mark_of mark)).order.slot (row i k (page_at i recovered)) ≡ true)
+  pub order-kept : (mark : List ℕ) → visible held ≡ true → 24 ≤ length (payload_of held) → take 16 (payload_of held) ≡ mark → FoundBy magic recovered (mark_of mark) (row i k (page_at i recovered))
   order-kept mark v n b =
       let e : slot_at (page_at i recovered) k ≡ held = exact h magic floor moment P c z table stands felt ok i k l d in
       there-found magic recovered (mark_of mark) (verified magic floor P (file h c z) table b_p (bytes-file c z b_l) ok) i k

@@ -1,6 +1,6 @@
 -- What the search for repeated marks gives: none exactly when no two rows of the listing are orders with the same mark; else the least pair, by the earlier row, then the later.
 -- Assumes nothing.
-use mathlib.Core.Path.{◌≡◌, refl, sym, ap, ◌∙◌}
+use mathlib.Core.Path.{◌≡◌, refl, sym, ap, ◌∙◌, subst}
 use mathlib.Core.Logic.{◌⊎◌, inl, inr}
 use mathlib.Core.Bool.{Bool, true, false}
 use Prim.Native.Nat.{ℕ, suc, ◌≤◌, ◌<◌}
@@ -11,9 +11,10 @@ use borrow.Author.Tests.{eq-eqb}
 use Rattle.page.specs.Fault.{verdict_of}
 use Rattle.page.specs.Rows.{visible_rows, first_with}
 use Rattle.page.specs.declared.Row.{Row}
-use Rattle.page.specs.declared.NextRow.TheVariants.{At, NoMore}
+use Rattle.std.specs.Prelude.{Option, Some, None, Result, Ok, Err}
+use Rattle.refusals.specs.declared.Verdict.{Verdict}
 use Rattle.page.proofs.Picks.{never}
-use Rattle.intake.specs.Orders.{order_of, same_mark, repeated_in, orders_repeated}
+use Rattle.intake.specs.Orders.{order_of, same_mark, pair_or, repeated_in, orders_repeated}
 use Rattle.intake.specs.declared.RepeatedOrders.{RepeatedOrders}
 
 -- rows of a list: r behind the rows a, q behind r and the rows b
@@ -39,8 +40,8 @@ record Split (f : Row → Bool) (rs : List Row) (q : Row) : Type 0 where
   pub first : (a c : List Row) (x : Row) → rs ≡ a ++ (x ∷ c) → f x ≡ true → length before ≤ length a
 
 data Search (f : Row → Bool) (rs : List Row) : Type 0 where
-  met : (q : Row) → first_with f rs ≡ At q → Split f rs q → Search f rs
-  over : first_with f rs ≡ NoMore → ((a c : List Row) (x : Row) → rs ≡ a ++ (x ∷ c) → f x ≡ false) → Search f rs
+  met : (q : Row) → first_with f rs ≡ Some q → Split f rs q → Search f rs
+  over : first_with f rs ≡ None → ((a c : List Row) (x : Row) → rs ≡ a ++ (x ∷ c) → f x ≡ false) → Search f rs
 
 nil_not : (a c : List Row) (x : Row) → [] ≡ a ++ (x ∷ c) → ⊥
 nil_not [] c x e = absurd (omega (arith, ap length e))
@@ -66,8 +67,13 @@ search f (r ∷ rs) = go (f r) refl (search f rs)
 
 -- ---- pairs
 
-abbrev is_found : RepeatedOrders → Bool
-is_found g = g.found
+-- one answer
+abbrev answer_in : Result (Option RepeatedOrders) Verdict → Option RepeatedOrders
+answer_in (Ok g) = g
+answer_in (Err v) = None
+
+ok-same : {g h : Option RepeatedOrders} → ◌≡◌ {A = Result (Option RepeatedOrders) Verdict} (Ok g) (Ok h) → g ≡ h
+ok-same e = ap answer_in e
 
 module _ (s : List ℕ) where
   -- a pair that is there: two rows, orders with the same mark, and the least such, by the earlier, then the later
@@ -83,17 +89,22 @@ module _ (s : List ℕ) where
     pub second : g.second ≡ order_of s later
     pub least : (a b c : List Row) (r q : Row) → Stand rs a r b q c → same_mark s r q ≡ true → (length before < length a) ⊎ ((length before ≡ length a) × (length between ≤ length b))
 
-  data Found (rs : List Row) : Type 0 where
-    some : (repeated_in s rs).found ≡ true → Pair rs (repeated_in s rs) → Found rs
-    none : (repeated_in s rs).found ≡ false → ((a b c : List Row) (r q : Row) → Stand rs a r b q c → same_mark s r q ≡ false) → Found rs
+  -- none of them are orders with the same mark
+  abbrev pub NoneSame : List Row → Type 0
+  NoneSame rs = (a b c : List Row) (r q : Row) → Stand rs a r b q c → same_mark s r q ≡ false
+
+  -- what the search answers of some rows: the least pair, or none exactly where there is none
+  abbrev pub Found : List Row → Option RepeatedOrders → Type 0
+  Found rs None = NoneSame rs
+  Found rs (Some g) = Pair rs g
 
   stand-not : (a b c : List Row) (r q : Row) → Stand [] a r b q c → ⊥
   stand-not a b c r q e = nil_not a (b ++ (q ∷ c)) r e
 
-  found : (rs : List Row) → Found rs
+  found : (rs : List Row) → Found rs (repeated_in s rs)
   unfolding repeated_in
-  found [] = none refl (λ a b c r q e. absurd (stand-not a b c r q e))
-  found (x ∷ rs) = go (search (same_mark s x) rs) (found rs)
+  found [] = λ a b c r q e. absurd (stand-not a b c r q e)
+  found (x ∷ rs) = go (search (same_mark s x) rs) (repeated_in s rs) (found rs)
     where
       -- a pair whose earlier row is x, or one of the others
       none_of : ((a c : List Row) (y : Row) → rs ≡ a ++ (y ∷ c) → same_mark s x y ≡ false) → ((a b c : List Row) (r q : Row) → Stand rs a r b q c → same_mark s r q ≡ false)
@@ -106,18 +117,18 @@ module _ (s : List ℕ) where
       least-here d u [] b c r q e t = let w : x ≡ r = ap (head_row x) e in inr (refl, u b c q (ap tail_rows e) (rw w t))
       least-here d u (y ∷ a) b c r q e t = inl (omega arith)
 
-      least-later : ((a c : List Row) (y : Row) → rs ≡ a ++ (y ∷ c) → same_mark s x y ≡ false) → (p : Pair rs (repeated_in s rs)) → (a b c : List Row) (r q : Row) → Stand (x ∷ rs) a r b q c → same_mark s r q ≡ true
+      least-later : ((a c : List Row) (y : Row) → rs ≡ a ++ (y ∷ c) → same_mark s x y ≡ false) → (g : RepeatedOrders) (p : Pair rs g) → (a b c : List Row) (r q : Row) → Stand (x ∷ rs) a r b q c → same_mark s r q ≡ true
           → (length (x ∷ p.before) < length a) ⊎ ((length (x ∷ p.before) ≡ length a) × (length p.between ≤ length b))
-      least-later u p [] b c r q e t = let w : x ≡ r = ap (head_row x) e in never (sym (u b c q (ap tail_rows e)) ∙ rw w t)
-      least-later u p (y ∷ a) b c r q e t = up (p.least a b c r q (ap tail_rows e) t)
+      least-later u g p [] b c r q e t = let w : x ≡ r = ap (head_row x) e in never (sym (u b c q (ap tail_rows e)) ∙ rw w t)
+      least-later u g p (y ∷ a) b c r q e t = up (p.least a b c r q (ap tail_rows e) t)
         where
           up : (length p.before < length a) ⊎ ((length p.before ≡ length a) × (length p.between ≤ length b)) → (suc (length p.before) < suc (length a)) ⊎ ((suc (length p.before) ≡ suc (length a)) × (length p.between ≤ length b))
           up (inl l) = inl (omega arith)
           up (inr l) = inr (omega (arith, l.0), l.1)
 
-      go : Search (same_mark s x) rs → Found rs → Found (x ∷ rs)
-      go (met q h w) f =
-          some (rw h) (record {
+      go : Search (same_mark s x) rs → (later : Option RepeatedOrders) → Found rs later → Found (x ∷ rs) (pair_or s x (first_with (same_mark s x) rs) later)
+      go (met q h w) later f =
+          rw h (record {
             before = [];
             earlier = x;
             between = w.before;
@@ -125,12 +136,12 @@ module _ (s : List ℕ) where
             behind = w.behind;
             stand = ap (λ (l : List Row). x ∷ l) w.is;
             same = w.passes;
-            first = rw h;
-            second = rw h;
+            first = refl;
+            second = refl;
             least = least-here w.before w.first;
           })
-      go (over h w) (some e p) =
-          some (rw h e) (record {
+      go (over h w) (Some g) p =
+          rw h (record {
             before = x ∷ p.before;
             earlier = p.earlier;
             between = p.between;
@@ -138,38 +149,31 @@ module _ (s : List ℕ) where
             behind = p.behind;
             stand = ap (λ (l : List Row). x ∷ l) p.stand;
             same = p.same;
-            first = rw h p.first;
-            second = rw h p.second;
-            least = least-later w p;
+            first = p.first;
+            second = p.second;
+            least = least-later w g p;
           })
-      go (over h w) (none e v) = none (rw h e) (none_of w v)
+      go (over h w) None v = rw h (none_of w v)
 
   -- ---- on pages that verification accepts
 
   module _ (magic : ℕ) (ok : (verdict_of magic s).number ≡ 0) where
-    taken : orders_repeated magic s ≡ repeated_in s (visible_rows s)
+    -- it answers
+    pub taken : orders_repeated magic s ≡ Ok (repeated_in s (visible_rows s))
     unfolding orders_repeated
     taken = rw (eq-eqb _ _ ok)
 
     -- none exactly when no two rows of the listing are orders with the same mark
-    pub none-repeated : (orders_repeated magic s).found ≡ false → (a b c : List Row) (r q : Row) → Stand (visible_rows s) a r b q c → same_mark s r q ≡ false
-    none-repeated e = go (found (visible_rows s))
-      where
-        go : Found (visible_rows s) → (a b c : List Row) (r q : Row) → Stand (visible_rows s) a r b q c → same_mark s r q ≡ false
-        go (some h p) = never (sym e ∙ ap is_found taken ∙ h)
-        go (none h w) = w
+    pub none-repeated : orders_repeated magic s ≡ Ok None → NoneSame (visible_rows s)
+    none-repeated e = subst (Found (visible_rows s)) (ok-same (sym taken ∙ e)) (found (visible_rows s))
 
-    pub repeated-none : ((a b c : List Row) (r q : Row) → Stand (visible_rows s) a r b q c → same_mark s r q ≡ false) → (orders_repeated magic s).found ≡ false
-    repeated-none w = go (found (visible_rows s))
+    pub repeated-none : NoneSame (visible_rows s) → orders_repeated magic s ≡ Ok None
+    repeated-none w = taken ∙ ap Ok (go (repeated_in s (visible_rows s)) (found (visible_rows s)))
       where
-        go : Found (visible_rows s) → (orders_repeated magic s).found ≡ false
-        go (some h p) = never (sym (w p.before p.between p.behind p.earlier p.later p.stand) ∙ p.same)
-        go (none h v) = ap is_found taken ∙ h
+        go : (g : Option RepeatedOrders) → Found (visible_rows s) g → g ≡ None
+        go None f = refl
+        go (Some g) p = never (sym (w p.before p.between p.behind p.earlier p.later p.stand) ∙ p.same)
 
     -- the pair is the least
-    pub repeated-least : (orders_repeated magic s).found ≡ true → Pair (visible_rows s) (orders_repeated magic s)
-    repeated-least e = go (found (visible_rows s))
-      where
-        go : Found (visible_rows s) → Pair (visible_rows s) (orders_repeated magic s)
-        go (some h p) = rw taken p
-        go (none h w) = never (sym (ap is_found taken ∙ h) ∙ e)
+    pub repeated-least : (g : RepeatedOrders) → orders_repeated magic s ≡ Ok (Some g) → Pair (visible_rows s) g
+    repeated-least g e = subst (Found (visible_rows s)) (ok-same (sym taken ∙ e)) (found (visible_rows s))

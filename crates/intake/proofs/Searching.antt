@@ -1,6 +1,6 @@
 -- The search for a mark: the slots of a page as code meets them, and page after page; that it is the first order with the mark, and what it answers.
 -- Assumes nothing.
-use mathlib.Core.Path.{◌≡◌, refl, sym, ap, ◌∙◌}
+use mathlib.Core.Path.{◌≡◌, refl, sym, ap, ◌∙◌, subst}
 use mathlib.Core.Logic.{inl, inr}
 use mathlib.Core.Bool.{Bool, true, false, not}
 use Prim.Native.Nat.{ℕ, zero, suc, ◌+◌, ◌-◌, ◌*◌, ◌%◌, ◌≤◌, ◌<◌}
@@ -9,36 +9,34 @@ use native.Mathlib.Numerals.{add-one}
 use native.Mathlib.Decide.{dec_le}
 use native.Mathlib.Nat.{zero-add}
 use mathlib.Core.List.{List, [], ◌∷◌, ◌++◌, append-nil, append_assoc}
-use lib.Dec.{ltb, eqb}
+use lib.Dec.{eqb}
 use lib.ListN.{length, take, drop, length-drop}
 use lib.Seq.{length-take-le}
-use borrow.Author.Tests.{le-leb, lt-leb, lt-ltb, le-ltb, eq-eqb, ne_eqb, eqb-true}
+use borrow.Author.Tests.{le-leb, lt-leb, eq-eqb, ne_eqb, eqb-true}
 use Rattle.endian.specs.Pick.{pick, cons_if}
 use Rattle.endian.specs.Numbers.{part, number_at}
 use Rattle.endian.proofs.Places.{part-take, part-drop, drop-part, number-take, number-drop}
-use Rattle.refusals.specs.Verdict.{verdict, accepted}
+use Rattle.refusals.specs.Verdict.{verdict, accepted, told_by, told}
 use Rattle.refusals.specs.declared.Verdict.{Verdict}
 use Rattle.page.specs.Layout.{page_bytes, data_type, pages_in, page_at, type_of, count_of, body_of, slot_off, slot_len, slot_at, payload_of}
 use Rattle.page.specs.Good.{DataGood, Good}
 use Rattle.page.specs.Fault.{fault_of, fault_verdict, size_wrong, verdict_from, verdict_of}
 use Rattle.page.specs.Rows.{visible, row, slot_rows, page_rows, rows_from, row_payload, first_with}
 use Rattle.page.specs.declared.Row.{Row}
-use Rattle.page.specs.declared.NextRow.{NextRow}
-use Rattle.page.specs.declared.NextRow.TheVariants.{Refused, At, NoMore}
+use Rattle.std.specs.Prelude.{Option, Some, None, Result, Ok, Err}
+use Rattle.std.specs.Option.{option_map, option_or}
+use Rattle.refusals.specs.declared.Refused.{Refused}
+use Rattle.refusals.proofs.Told.{err-refused, err-some, ok-accepted}
 use Rattle.page.proofs.Picks.{never}
 use Rattle.page.proofs.Slots.{slot-in}
 use Rattle.page.proofs.Verdicts.{right-size, number_of, case-size, accepted-good, good-accepted, bad-refused}
 use Rattle.page.proofs.Visibility.{empty}
-use Rattle.intake.specs.Orders.{mark_of, is_order, bears, no_order, refused_order, short_in, found_by, found_in, order_found}
+use Rattle.intake.specs.Orders.{mark_of, is_order, bears, order_of, short_in, found_in, order_found}
 use Rattle.intake.specs.Places.{wide}
-use Rattle.intake.specs.Search.{is_short, short_slots, is_marked, first_slot, order_in, slots_found, both, with_page}
+use Rattle.intake.specs.Search.{is_short, short_slots, is_marked, first_slot, order_in, first_order, slots_found, both, with_page}
 use Rattle.intake.specs.declared.FoundOrder.{FoundOrder}
 use Rattle.intake.specs.declared.Order.{Order}
 use Rattle.intake.proofs.Halves.{halves-at}
-use Rattle.intake.proofs.Findings.{Looked, here, nowhere, looked}
-
-abbrev pub has_none : ℕ → FoundOrder
-has_none n = record { verdict = accepted; found = false; order = no_order; short = n }
 
 neither : (t : Bool) → false ≡ pick t false false
 neither true = refl
@@ -163,17 +161,21 @@ module _ (p : List ℕ) where
 
 -- and which is the first with the mark
 
+abbrev MarkedIf : ℕ → List ℕ → ℕ → Option ℕ → Type 0
+MarkedIf mark p n None = Unit {0}
+MarkedIf mark p n (Some k) = (k < n) × (is_marked mark (slot_at p k) ≡ true)
+
 module _ (mark : ℕ) (p : List ℕ) where
   pub first-start : (n : ℕ) → first_slot mark p (n - 0) 0 ≡ first_slot mark p n 0
   first-start n = let e : n - 0 ≡ n = omega arith in rw e
 
   module _ (n k : ℕ) where
-    pub first-end : n ≤ k → k ≡ first_slot mark p (n - k) k
+    pub first-end : n ≤ k → None ≡ first_slot mark p (n - k) k
     unfolding first_slot
     first-end l = let e : n - k ≡ 0 = omega arith in rw e
 
     module _ (l : k < n) where
-      pub first-here : is_marked mark (slot_at p k) ≡ true → k ≡ first_slot mark p (n - k) k
+      pub first-here : is_marked mark (slot_at p k) ≡ true → Some k ≡ first_slot mark p (n - k) k
       unfolding first_slot
       first-here h = let e : n - k ≡ suc (n - (k + 1)) = omega arith in rw (e, h)
 
@@ -181,46 +183,38 @@ module _ (mark : ℕ) (p : List ℕ) where
       unfolding first_slot
       first_next h = let e : n - k ≡ suc (n - (k + 1)) = omega arith in rw (e, add-one k, h)
 
-  first-marked : (n k : ℕ) → first_slot mark p n k < k + n → is_marked mark (slot_at p (first_slot mark p n k)) ≡ true
+  first-marked : (n k : ℕ) → MarkedIf mark p (k + n) (first_slot mark p n k)
   unfolding first_slot
-  first-marked zero k h = absurd (omega arith)
-  first-marked (suc n) k h = go (is_marked mark (slot_at p k)) refl (first-marked n (suc k)) h
+  first-marked zero k = tt
+  first-marked (suc n) k = go (is_marked mark (slot_at p k)) refl (first_slot mark p n (suc k)) (let z : suc k + n ≡ k + suc n = omega arith in rw z at (first-marked n (suc k)))
     where
-      go : (t : Bool) → is_marked mark (slot_at p k) ≡ t → (first_slot mark p n (suc k) < suc k + n → is_marked mark (slot_at p (first_slot mark p n (suc k))) ≡ true)
-          → pick t k (first_slot mark p n (suc k)) < k + suc n → is_marked mark (slot_at p (pick t k (first_slot mark p n (suc k)))) ≡ true
-      go true e f u = e
-      go false e f u = f (omega arith)
+      go : (t : Bool) → is_marked mark (slot_at p k) ≡ t → (m : Option ℕ) → MarkedIf mark p (k + suc n) m → MarkedIf mark p (k + suc n) (pick t (Some k) m)
+      go true e m f = (omega arith, e)
+      go false e m f = f
 
 -- ---- all slots of page i, with what is known
 
-module _ (mark i : ℕ) (p : List ℕ) (n : ℕ) (g : FoundOrder) where
-  slots-short : (slots_found mark i p n).short ≡ short_slots p n 0
-  unfolding slots_found
-  slots-short = go (ltb (first_slot mark p n 0) n)
-    where
-      go : (t : Bool) → (pick t (record { verdict = accepted; found = true; order = order_in i (first_slot mark p n 0) (payload_of (slot_at p (first_slot mark p n 0))); short = short_slots p n 0 }) (has_none (short_slots p n 0))).short ≡ short_slots p n 0
-      go true = refl
-      go false = refl
+module _ (mark i : ℕ) (p : List ℕ) (size : length p ≡ page_bytes) (d : DataGood p) where
+  -- a slot that was found has room for an order
+  pub first-long : (k : ℕ) → Some k ≡ first_slot mark p (count_of p) 0 → (k < count_of p) × (48 ≤ slot_len (body_of p) k)
+  first-long k e =
+      let m : MarkedIf mark p (0 + count_of p) (Some k) = subst (MarkedIf mark p (0 + count_of p)) (sym e) (first-marked mark p (count_of p) 0) in
+      let l : k < count_of p = omega (arith, m.0) in
+      (l, marked-long p size d k l mark m.1)
 
-  module _ (c : ℕ) (counted : c ≡ short_slots p n 0) where
-    pub both-known : g.found ≡ true → record { verdict = g.verdict; found = true; order = g.order; short = g.short + c } ≡ both g (slots_found mark i p n)
-    unfolding both
-    both-known e = rw (e, slots-short, counted)
+  pub order-first : (k : ℕ) → Some k ≡ first_slot mark p (count_of p) 0 → (o : ℕ) → o ≡ slot_off (body_of p) k
+      → (r : Order) → r ≡ record { page = record { 0 = i }; slot = k; part = number_at 4 (64 + o + 40) p; quantity = number_at 4 (64 + o + 44) p } → Some r ≡ first_order mark i p (count_of p)
+  unfolding first_order
+  order-first k e o eo r q =
+      let l = first-long k e in
+      rw (← e) (ap Some (order-there p size d k l.0 (slot_len (body_of p) k) refl l.1 o eo i r q))
 
-    module _ (e : g.found ≡ false) (k : ℕ) (first : k ≡ first_slot mark p n 0) where
-      pub both-here : k < n → (o : Order) → o ≡ order_in i k (payload_of (slot_at p k)) → record { verdict = g.verdict; found = true; order = o; short = g.short + c } ≡ both g (slots_found mark i p n)
-      unfolding both slots_found
-      both-here l o q = rw (e, q, counted, ← first, lt-ltb k n l)
+  pub order-room : (k : ℕ) → Some k ≡ first_slot mark p (count_of p) 0 → (o : ℕ) → o ≡ slot_off (body_of p) k → 64 + o + 48 ≤ length p
+  order-room k e o eo = let l = first-long k e in order-in p size d k l.0 (slot_len (body_of p) k) refl l.1 o eo
 
-      pub both-none : n ≤ k → (o : Order) → o ≡ no_order → record { verdict = g.verdict; found = false; order = o; short = g.short + c } ≡ both g (slots_found mark i p n)
-      unfolding both slots_found
-      both-none l o q = rw (e, q, counted, ← first, le-ltb k n l)
-
-  pub first-long : length p ≡ page_bytes → DataGood p → n ≡ count_of p → (k : ℕ) → k ≡ first_slot mark p n 0 → k < n → 48 ≤ slot_len (body_of p) k
-  first-long size d en k e l =
-      let z : first_slot mark p n 0 < 0 + n = omega arith in
-      let m : is_marked mark (slot_at p k) ≡ true = rw e (first-marked mark p n 0 z) in
-      marked-long p size d k (omega arith) mark m
+pub order-none : (mark i : ℕ) (p : List ℕ) (n : ℕ) → None ≡ first_slot mark p n 0 → None ≡ first_order mark i p n
+unfolding first_order
+order-none mark i p n e = rw (← e)
 
 module _ (mark i : ℕ) (p : List ℕ) (g : FoundOrder) where
   pub page-other : (type_of p ≡ data_type → ⊥) → g ≡ with_page mark i p g
@@ -232,29 +226,27 @@ module _ (mark i : ℕ) (p : List ℕ) (g : FoundOrder) where
   page-data h = rw (eq-eqb _ _ h)
 
   pub short-page : (type_of p ≡ data_type → DataGood p) → (with_page mark i p g).short ≤ g.short + 4080
-  unfolding with_page both
+  unfolding with_page both slots_found
   short-page d = go (eqb (type_of p) data_type) refl
     where
       go : (t : Bool) → eqb (type_of p) data_type ≡ t → (pick t (both g (slots_found mark i p (count_of p))) g).short ≤ g.short + 4080
-      go true e = let f = d (eqb-true _ _ e) in omega (arith, slots-short mark i p (count_of p) g, short-few p (count_of p) 0, f.start, f.start_end, f.end)
+      go true e = let f = d (eqb-true _ _ e) in omega (arith, short-few p (count_of p) 0, f.start, f.start_end, f.end)
       go false e = omega arith
 
 -- ---- over rows
 
--- what a search gives, or else another
-abbrev or_else : NextRow → NextRow → NextRow
-or_else (Refused v) later = Refused v
-or_else (At r) later = At r
-or_else NoMore later = later
-
-first-append : (f : Row → Bool) (xs ys : List Row) → first_with f (xs ++ ys) ≡ or_else (first_with f xs) (first_with f ys)
+first-append : (f : Row → Bool) (xs ys : List Row) → first_with f (xs ++ ys) ≡ option_or (first_with f xs) (first_with f ys)
 unfolding first_with
 first-append f [] ys = refl
 first-append f (q ∷ xs) ys = go (f q) (first-append f xs ys)
   where
-    go : (t : Bool) → first_with f (xs ++ ys) ≡ or_else (first_with f xs) (first_with f ys) → pick t (At q) (first_with f (xs ++ ys)) ≡ or_else (pick t (At q) (first_with f xs)) (first_with f ys)
+    go : (t : Bool) → first_with f (xs ++ ys) ≡ option_or (first_with f xs) (first_with f ys) → pick t (Some q) (first_with f (xs ++ ys)) ≡ option_or (pick t (Some q) (first_with f xs)) (first_with f ys)
     go true e = refl
     go false e = e
+
+map-or : {A B : Type 0} (f : A → B) (x y : Option A) → option_map f (option_or x y) ≡ option_or (option_map f x) (option_map f y)
+map-or f None y = refl
+map-or f (Some a) y = refl
 
 module _ (s : List ℕ) (mark : ℕ) where
   short-append : (xs ys : List Row) → short_in s (xs ++ ys) ≡ short_in s xs + short_in s ys
@@ -269,14 +261,7 @@ module _ (s : List ℕ) (mark : ℕ) where
   -- rows and later ones
   found-append : (xs ys : List Row) → found_in s mark (xs ++ ys) ≡ both (found_in s mark xs) (found_in s mark ys)
   unfolding found_in both
-  found-append xs ys = go (looked (λ r. bears mark (row_payload s r)) xs) (looked (λ r. bears mark (row_payload s r)) ys)
-    where
-      go : Looked (λ r. bears mark (row_payload s r)) xs → Looked (λ r. bears mark (row_payload s r)) ys
-          → found_by s (short_in s (xs ++ ys)) (first_with (λ r. bears mark (row_payload s r)) (xs ++ ys)) ≡ both (found_by s (short_in s xs) (first_with (λ r. bears mark (row_payload s r)) xs)) (found_by s (short_in s ys) (first_with (λ r. bears mark (row_payload s r)) ys))
-      go (here r e) (here q h) = rw (short-append xs ys, first-append (λ q. bears mark (row_payload s q)) xs ys, e, h)
-      go (here r e) (nowhere h) = rw (short-append xs ys, first-append (λ q. bears mark (row_payload s q)) xs ys, e, h)
-      go (nowhere e) (here q h) = rw (short-append xs ys, first-append (λ q. bears mark (row_payload s q)) xs ys, e, h)
-      go (nowhere e) (nowhere h) = rw (short-append xs ys, first-append (λ q. bears mark (row_payload s q)) xs ys, e, h)
+  found-append xs ys = rw (short-append xs ys, first-append (λ q. bears mark (row_payload s q)) xs ys, map-or (order_of s) (first_with (λ q. bears mark (row_payload s q)) xs) (first_with (λ q. bears mark (row_payload s q)) ys))
 
   -- ---- the rows of a page
 
@@ -295,32 +280,27 @@ module _ (s : List ℕ) (mark : ℕ) where
             by false = ap suc h
         go false h = h
 
-    -- the row of slot k, or none where it is the end
-    abbrev row_below : ℕ → ℕ → NextRow
-    row_below end k = pick (ltb k end) (At (row i k (page_at i s))) NoMore
-
-    rows-first : (n k : ℕ) → first_with (λ r. bears mark (row_payload s r)) (slot_rows visible i (page_at i s) n k) ≡ row_below (k + n) (first_slot mark (page_at i s) n k)
+    rows-first : (n k : ℕ) → first_with (λ r. bears mark (row_payload s r)) (slot_rows visible i (page_at i s) n k) ≡ option_map (λ k. row i k (page_at i s)) (first_slot mark (page_at i s) n k)
     unfolding first_with slot_rows first_slot is_marked
-    rows-first zero k = let z : k + 0 ≡ k = omega arith in rw (z, le-ltb k k (omega arith))
-    rows-first (suc n) k = go (visible (slot_at (page_at i s) k)) (let z : suc k + n ≡ k + suc n = omega arith in rw z at (rows-first n (suc k)))
+    rows-first zero k = refl
+    rows-first (suc n) k = go (visible (slot_at (page_at i s) k)) (rows-first n (suc k))
       where
-        go : (t : Bool) → first_with (λ r. bears mark (row_payload s r)) (slot_rows visible i (page_at i s) n (suc k)) ≡ row_below (k + suc n) (first_slot mark (page_at i s) n (suc k))
-            → first_with (λ r. bears mark (row_payload s r)) (cons_if t (row i k (page_at i s)) (slot_rows visible i (page_at i s) n (suc k))) ≡ row_below (k + suc n) (pick (pick t (bears mark (payload_of (slot_at (page_at i s) k))) false) k (first_slot mark (page_at i s) n (suc k)))
+        go : (t : Bool) → first_with (λ r. bears mark (row_payload s r)) (slot_rows visible i (page_at i s) n (suc k)) ≡ option_map (λ k. row i k (page_at i s)) (first_slot mark (page_at i s) n (suc k))
+            → first_with (λ r. bears mark (row_payload s r)) (cons_if t (row i k (page_at i s)) (slot_rows visible i (page_at i s) n (suc k))) ≡ option_map (λ k. row i k (page_at i s)) (pick (pick t (bears mark (payload_of (slot_at (page_at i s) k))) false) (Some k) (first_slot mark (page_at i s) n (suc k)))
         go true h = by (bears mark (payload_of (slot_at (page_at i s) k)))
           where
-            by : (b : Bool) → pick b (At (row i k (page_at i s))) (first_with (λ r. bears mark (row_payload s r)) (slot_rows visible i (page_at i s) n (suc k))) ≡ row_below (k + suc n) (pick b k (first_slot mark (page_at i s) n (suc k)))
-            by true = rw (lt-ltb k (k + suc n) (omega arith))
+            by : (b : Bool) → pick b (Some (row i k (page_at i s))) (first_with (λ r. bears mark (row_payload s r)) (slot_rows visible i (page_at i s) n (suc k))) ≡ option_map (λ k. row i k (page_at i s)) (pick b (Some k) (first_slot mark (page_at i s) n (suc k)))
+            by true = refl
             by false = h
         go false h = h
 
     slots-rows : (n : ℕ) → found_in s mark (slot_rows visible i (page_at i s) n 0) ≡ slots_found mark i (page_at i s) n
-    unfolding found_in slots_found
-    slots-rows n = rw (rows_short n 0, rows-first n 0, zero-add n) (go (ltb (first_slot mark (page_at i s) n 0) n))
+    unfolding found_in slots_found first_order
+    slots-rows n = rw (rows_short n 0, rows-first n 0) (go (first_slot mark (page_at i s) n 0))
       where
-        go : (t : Bool) → found_by s (short_slots (page_at i s) n 0) (pick t (At (row i (first_slot mark (page_at i s) n 0) (page_at i s))) NoMore)
-            ≡ pick t (record { verdict = accepted; found = true; order = order_in i (first_slot mark (page_at i s) n 0) (payload_of (slot_at (page_at i s) (first_slot mark (page_at i s) n 0))); short = short_slots (page_at i s) n 0 }) (has_none (short_slots (page_at i s) n 0))
-        go true = refl
-        go false = refl
+        go : (m : Option ℕ) → ◌≡◌ {A = FoundOrder} (record { order = option_map (order_of s) (option_map (λ k. row i k (page_at i s)) m); short = short_slots (page_at i s) n 0 }) (record { order = option_map (λ k. order_in i k (payload_of (slot_at (page_at i s) k))) m; short = short_slots (page_at i s) n 0 })
+        go None = refl
+        go (Some k) = refl
 
     page-rows : (xs : List Row) → with_page mark i (page_at i s) (found_in s mark xs) ≡ found_in s mark (xs ++ page_rows visible i (page_at i s))
     unfolding with_page page_rows
@@ -347,7 +327,7 @@ pub record Gone (magic : ℕ) (s : List ℕ) (mark i : ℕ) (g : FoundOrder) : T
   pub within : i ≤ pages_in s
 
 module _ (magic : ℕ) (s : List ℕ) (mark : ℕ) (right : size_wrong s ≡ false) where
-  pub gone-none : (g : FoundOrder) → g ≡ has_none 0 → Gone magic s mark 0 g
+  pub gone-none : (g : FoundOrder) → g ≡ record { order = None; short = 0 } → Gone magic s mark 0 g
   unfolding rows_from found_in short_in first_with
   gone-none g e = record { good = λ j l. absurd (omega arith); known = e; few = rw e (omega arith); within = omega arith }
 
@@ -365,24 +345,27 @@ module _ (magic : ℕ) (s : List ℕ) (mark : ℕ) (right : size_wrong s ≡ fal
     front-size : (length front % page_bytes ≡ 0) × (pages_in front ≤ 4096)
     front-size = let r = right-size s right in (omega (arith, front_long), omega (arith, front_long, r.1))
 
-    module _ (v : Verdict) (is : v ≡ verdict_from magic front i) where
-      pub page-good : v.number ≡ 0 → Good magic i (page_at i s)
-      page-good e = rw (← front-page) (accepted-good magic front i (sym (ap number_of is) ∙ e) i (omega arith) (omega (arith, front_long)))
+    module _ {r : Result Unit Refused} (is : told r ≡ verdict_from magic front i) where
+      pub page-good : {x : Unit} → r ≡ Ok x → Good magic i (page_at i s)
+      page-good w = rw (← front-page) (accepted-good magic front i (ok-accepted is w) i (omega arith) (omega (arith, front_long)))
 
-      pub gone-refused : (v.number ≡ 0 → ⊥) → (r : FoundOrder) → r ≡ refused_order v → r ≡ order_found magic s mark
+      pub gone-refused : {e : Refused} → r ≡ Err e → Err (told_by e) ≡ order_found magic s mark
       unfolding order_found
-      gone-refused n r e =
+      gone-refused {e} q =
+          let v : Verdict = told_by e in
+          let at : v ≡ verdict_from magic front i = err-refused is q in
+          let n : v.number ≡ 0 → ⊥ = λ z. err-some is q (sym (ap number_of at) ∙ z) in
           let m = right-size s right in
-          let no : Good magic i (page_at i s) → ⊥ = λ h. n (ap number_of (is ∙ good-accepted magic front i front-size.0 front-size.1 (λ j a b. let z : j ≡ i = omega (arith, front_long) in rw (z, front-page) h))) in
+          let no : Good magic i (page_at i s) → ⊥ = λ h. n (ap number_of (at ∙ good-accepted magic front i front-size.0 front-size.1 (λ j a b. let z : j ≡ i = omega (arith, front_long) in rw (z, front-page) h))) in
           let here : verdict_of magic s ≡ v =
           bad-refused magic s 0 m.0 m.1 i (record { from = omega arith; within = l; before = λ j a b. w.good j b; here = no })
           ∙ ap (λ (p : List ℕ). fault_verdict (fault_of magic i p) i) (sym front-page)
-          ∙ sym (bad-refused magic front i front-size.0 front-size.1 i (record { from = omega arith; within = omega (arith, front_long); before = λ j a b. absurd (omega arith); here = λ h. no (rw (← front-page) h) })) ∙ sym is in
+          ∙ sym (bad-refused magic front i front-size.0 front-size.1 i (record { from = omega arith; within = omega (arith, front_long); before = λ j a b. absurd (omega arith); here = λ h. no (rw (← front-page) h) })) ∙ sym at in
           let t : eqb (verdict_of magic s).number 0 ≡ false = rw here (ne_eqb v.number 0 n) in
-          e ∙ sym (rw (t, here))
+          sym (rw (t, here))
 
-      pub gone-more : v.number ≡ 0 → (r : FoundOrder) → r ≡ with_page mark i (page_at i s) g → Gone magic s mark (i + 1) r
-      gone-more e r q = record {
+      pub gone-more : {x : Unit} → r ≡ Ok x → (h : FoundOrder) → h ≡ with_page mark i (page_at i s) g → Gone magic s mark (i + 1) h
+      gone-more e h q = record {
         good = λ j h. upto j h;
         known = q ∙ ap (with_page mark i (page_at i s)) w.known ∙ page-rows s mark i (rows_from visible s i 0) ∙ ap (found_in s mark) more;
         few = rw q (omega (arith, short-page mark i (page_at i s) g (page-good e).data_good, w.few));
@@ -395,23 +378,33 @@ module _ (magic : ℕ) (s : List ℕ) (mark : ℕ) (right : size_wrong s ≡ fal
           upto : (j : ℕ) → j < i + 1 → Good magic j (page_at j s)
           upto j h = elim (dec_le (suc j) i) [ yes a ↦ w.good j a | no a ↦ let z : j ≡ i = omega arith in rw z (page-good e) ]
 
-  pub gone-all : (i : ℕ) (g : FoundOrder) → pages_in s ≤ i → Gone magic s mark i g → g ≡ order_found magic s mark
+  pub gone-all : (i : ℕ) (g : FoundOrder) → pages_in s ≤ i → Gone magic s mark i g → Ok g ≡ order_found magic s mark
   unfolding order_found
   gone-all i g h w =
       let z : i ≡ pages_in s = omega (arith, w.within) in
       let m = right-size s right in
       let ok : verdict_of magic s ≡ accepted = good-accepted magic s 0 m.0 m.1 (λ j a b. w.good j (omega arith)) in
       let t : eqb (verdict_of magic s).number 0 ≡ true = eq-eqb _ _ (ap number_of ok) in
-      w.known ∙ ap (λ (n : ℕ). found_in s mark (rows_from visible s n 0)) z ∙ sym (rw t)
+      sym (rw t (ap Ok (sym (w.known ∙ ap (λ (n : ℕ). found_in s mark (rows_from visible s n 0)) z))))
 
 -- ---- the whole answer
 
-pub find-size : (magic : ℕ) (s : List ℕ) (mark : ℕ) → size_wrong s ≡ true → (r : FoundOrder) → r ≡ refused_order (verdict 1 0) → r ≡ order_found magic s mark
+pub find-size : (magic : ℕ) (s : List ℕ) (mark : ℕ) → size_wrong s ≡ true → Err (verdict 1 0) ≡ order_found magic s mark
 unfolding order_found
-find-size magic s mark e r q =
+find-size magic s mark e =
     let z : verdict_of magic s ≡ verdict 1 0 = sym (case-size magic s 0 e) in
-    q ∙ sym (rw z)
+    sym (rw z)
 
 -- the mark, by its halves as code reads them
 pub mark-read : (m : List ℕ) (low high : ℕ) → low ≡ number_at 8 0 m → high ≡ number_at 8 8 m → wide low high ≡ mark_of m
 mark-read m low high p q = rw (p, q) (sym (halves-at 0 m))
+
+-- what is known after the slots of a page, by what was known before
+module _ (mark i : ℕ) (p : List ℕ) (n : ℕ) (g : FoundOrder) (c : ℕ) (counted : c ≡ short_slots p n 0) (x : Option Order) where
+  pub both-kept : (o : Order) → g.order ≡ Some o → x ≡ Some o → ◌≡◌ {A = FoundOrder} (record { order = x; short = g.short + c }) (both g (slots_found mark i p n))
+  unfolding both slots_found
+  both-kept o e q = rw (q, counted, e)
+
+  pub both-new : g.order ≡ None → x ≡ first_order mark i p n → ◌≡◌ {A = FoundOrder} (record { order = x; short = g.short + c }) (both g (slots_found mark i p n))
+  unfolding both slots_found
+  both-new e q = rw (q, counted, e)

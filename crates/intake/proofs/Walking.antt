@@ -11,14 +11,12 @@ use Rattle.endian.specs.Pick.{pick, cons_if}
 use Rattle.page.specs.Layout.{pages_in}
 use Rattle.page.specs.Rows.{visible, visible_rows, row_payload, at_or_after, first_at, rows_at, Listable}
 use Rattle.page.specs.declared.Row.{Row}
-use Rattle.page.specs.declared.NextRow.TheVariants.{At}
+use Rattle.std.specs.Prelude.{Some}
 use Rattle.page.proofs.ListedRows.{Each, Standing, rows-each, rows-stand}
 use Rattle.page.proofs.RowLists.{Before, Rising, lower, down, rising-pages, all-at, row_or, row_next}
 use Rattle.page.proofs.Visibility.{empty}
-use Rattle.page.proofs.Picks.{never}
 use Rattle.intake.specs.Orders.{is_order}
-use Rattle.intake.specs.Places.{place_of, places_of, places_from, Place, Met}
-use Rattle.intake.specs.declared.orders.NextOrder.{NextOrder}
+use Rattle.intake.specs.Places.{place_of, places_of, places_from}
 use Rattle.intake.proofs.OrderRows.{short_row, order_row, offset-small}
 
 -- a row of a listing: it stands in the page area, on a page that is lent
@@ -38,12 +36,12 @@ module _ (P : Row → Type 0) where
       go true v = (u.0, v)
       go false v = v
 
-  each-met : (i k : ℕ) (r : Row) (rs : List Row) → Each P rs → first_at i k rs ≡ At r → P r
+  each-met : (i k : ℕ) (r : Row) (rs : List Row) → Each P rs → first_at i k rs ≡ Some r → P r
   unfolding first_at
-  each-met i k r [] u e = let z : ◌≡◌ {A = ℕ} 0 1 = cc in absurd (omega arith)
+  each-met i k r [] u e = cc
   each-met i k r (q ∷ rs) u e = go (at_or_after i k q) (each-met i k r rs u.1) e
     where
-      go : (t : Bool) → (first_at i k rs ≡ At r → P r) → pick t (At q) (first_at i k rs) ≡ At r → P r
+      go : (t : Bool) → (first_at i k rs ≡ Some r → P r) → pick t (Some q) (first_at i k rs) ≡ Some r → P r
       go true f h = let z : q ≡ r = ap (row_or r) h in rw (← z) u.0
       go false f h = f h
 
@@ -63,7 +61,7 @@ sound-both s (r ∷ rs) u v = (record { stands = u.0; lent = v.0 }, sound-both s
 pub rows-sound : (s : List ℕ) → Listable s → Each (Sound s) (visible_rows s)
 rows-sound s fine = sound-both s (visible_rows s) (rows-stand visible (empty true) s fine) (rows-each visible (λ r. r.page.0 < pages_in s) s (λ i k h. h.lent))
 
-pub met-sound : (s : List ℕ) → Listable s → (i k : ℕ) (r : Row) → first_at i k (visible_rows s) ≡ At r → Sound s r
+pub met-sound : (s : List ℕ) → Listable s → (i k : ℕ) (r : Row) → first_at i k (visible_rows s) ≡ Some r → Sound s r
 met-sound s fine i k r e = each-met (Sound s) i k r (visible_rows s) (rows-sound s fine) e
 
 -- ---- one step
@@ -73,7 +71,7 @@ module _ (s : List ℕ) (i k : ℕ) where
   unfolding places_of
   places-end e = rw e
 
-  module _ (r : Row) (met : first_at i k (visible_rows s) ≡ At r) (st : Standing s r) where
+  module _ (r : Row) (met : first_at i k (visible_rows s) ≡ Some r) (st : Standing s r) where
     next : places_from s i k ≡ places_of s (r ∷ rows_at r.page.0 (r.slot + 1) (visible_rows s))
     next = ap (places_of s) (row_next visible s i k r met)
 
@@ -84,13 +82,6 @@ module _ (s : List ℕ) (i k : ℕ) where
     pub places-here : 48 ≤ r.length → places_from s i k ≡ place_of r ∷ places_from s r.page.0 (r.slot + 1)
     unfolding places_of
     places-here h = next ∙ rw (order_row s r st h)
-
--- what a step answers
-pub met-none : (s : List ℕ) (i k : ℕ) (n : NextOrder) → n.over ≡ true → places_from s i k ≡ [] → Met s i k n
-met-none s i k n e h = record { none = λ q. h; some = λ q. never (sym q ∙ e) }
-
-pub met_some : (s : List ℕ) (i k : ℕ) (n : NextOrder) → n.over ≡ false → places_from s i k ≡ n.place ∷ places_from s n.page n.slot → Place s n.place → Met s i k n
-met_some s i k n e h p = record { none = λ q. never (sym e ∙ q); some = λ q. (h, p) }
 
 -- ---- the places rise
 

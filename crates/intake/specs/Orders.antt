@@ -1,14 +1,13 @@
 -- Orders and their request marks (paper 02, W9): the first visible order with a mark, and the least pair of visible orders with the same one.
-use Rattle.std.specs.Prelude.{ℕ, suc, Bool, true, false, List, [], ◌∷◌, length, leb, eqb}
+use Rattle.std.specs.Prelude.{ℕ, suc, Bool, false, List, [], ◌∷◌, Option, Some, None, Result, length, leb, eqb}
+use Rattle.std.specs.Option.{option_map}
 use Rattle.endian.specs.Pick.{pick}
 use Rattle.endian.specs.Numbers.{number_at}
-use Rattle.refusals.specs.Verdict.{accepted}
+use Rattle.refusals.specs.Verdict.{answered}
 use Rattle.refusals.specs.declared.Verdict.{Verdict}
 use Rattle.page.specs.Fault.{verdict_of}
 use Rattle.page.specs.Rows.{visible_rows, row_payload, first_with}
 use Rattle.page.specs.declared.Row.{Row}
-use Rattle.page.specs.declared.NextRow.{NextRow}
-use Rattle.page.specs.declared.NextRow.TheVariants.{Refused, At, NoMore}
 use Rattle.intake.specs.declared.Order.{Order}
 use Rattle.intake.specs.declared.FoundOrder.{FoundOrder}
 use Rattle.intake.specs.declared.RepeatedOrders.{RepeatedOrders}
@@ -36,9 +35,6 @@ bears mark p = pick (is_order p) (eqb (mark_of p) mark) false
 abbrev pub order_of : List ℕ → Row → Order
 order_of s r = record { page = r.page; slot = r.slot; part = part_of (row_payload s r); quantity = quantity_of (row_payload s r) }
 
-abbrev pub no_order : Order
-no_order = record { page = record { 0 = 0 }; slot = 0; part = 0; quantity = 0 }
-
 -- ---- the first visible order with a mark
 
 -- how many of some rows have a payload under 24 bytes
@@ -46,23 +42,13 @@ unfoldable pub short_in : List ℕ → List Row → ℕ
 short_in s [] = 0
 short_in s (r ∷ rs) = pick (is_order (row_payload s r)) (short_in s rs) (suc (short_in s rs))
 
--- refused: nothing else
-abbrev pub refused_order : Verdict → FoundOrder
-refused_order v = record { verdict = v; found = false; order = no_order; short = 0 }
-
--- the order that was found or none, and how many payloads are short
-abbrev pub found_by : List ℕ → ℕ → NextRow → FoundOrder
-found_by s short (Refused v) = refused_order v
-found_by s short (At r) = record { verdict = accepted; found = true; order = order_of s r; short = short }
-found_by s short NoMore = record { verdict = accepted; found = false; order = no_order; short = short }
-
--- among some rows
+-- among some rows: the first order with the mark, and how many payloads are short
 unfoldable pub found_in : List ℕ → ℕ → List Row → FoundOrder
-found_in s mark rs = found_by s (short_in s rs) (first_with (λ r. bears mark (row_payload s r)) rs)
+found_in s mark rs = record { order = option_map (order_of s) (first_with (λ r. bears mark (row_payload s r)) rs); short = short_in s rs }
 
 -- among the visible ones, in the order of the listing; refused as the listing is
-unfoldable pub order_found : ℕ → List ℕ → ℕ → FoundOrder
-order_found magic s mark = pick (eqb (verdict_of magic s).number 0) (found_in s mark (visible_rows s)) (refused_order (verdict_of magic s))
+unfoldable pub order_found : ℕ → List ℕ → ℕ → Result FoundOrder Verdict
+order_found magic s mark = answered (verdict_of magic s) (found_in s mark (visible_rows s))
 
 -- ---- the least pair of visible orders with the same mark
 
@@ -70,20 +56,16 @@ order_found magic s mark = pick (eqb (verdict_of magic s).number 0) (found_in s 
 unfoldable pub same_mark : List ℕ → Row → Row → Bool
 same_mark s r q = pick (is_order (row_payload s r)) (bears (mark_of (row_payload s r)) (row_payload s q)) false
 
-abbrev pub none_repeated : Verdict → RepeatedOrders
-none_repeated v = record { verdict = v; found = false; first = no_order; second = no_order }
-
 -- a row and what was found behind it, or else a later pair
-abbrev pub pair_or : List ℕ → Row → NextRow → RepeatedOrders → RepeatedOrders
-pair_or s r (Refused v) later = later
-pair_or s r (At q) later = record { verdict = accepted; found = true; first = order_of s r; second = order_of s q }
-pair_or s r NoMore later = later
+abbrev pub pair_or : List ℕ → Row → Option Row → Option RepeatedOrders → Option RepeatedOrders
+pair_or s r (Some q) later = Some (record { first = order_of s r; second = order_of s q })
+pair_or s r None later = later
 
 -- of some rows the first that has its mark again behind it, and the first behind it that has
-unfoldable pub repeated_in : List ℕ → List Row → RepeatedOrders
-repeated_in s [] = none_repeated accepted
+unfoldable pub repeated_in : List ℕ → List Row → Option RepeatedOrders
+repeated_in s [] = None
 repeated_in s (r ∷ rs) = pair_or s r (first_with (same_mark s r) rs) (repeated_in s rs)
 
 -- of the visible ones, in the order of the listing; refused as the listing is
-unfoldable pub orders_repeated : ℕ → List ℕ → RepeatedOrders
-orders_repeated magic s = pick (eqb (verdict_of magic s).number 0) (repeated_in s (visible_rows s)) (none_repeated (verdict_of magic s))
+unfoldable pub orders_repeated : ℕ → List ℕ → Result (Option RepeatedOrders) Verdict
+orders_repeated magic s = answered (verdict_of magic s) (repeated_in s (visible_rows s))

@@ -1,5 +1,5 @@
 -- Only the algorithm needs this: orders as numbers, their places, which rise in the order of the listing; and what a list of numbers holds, in any order.
-use Rattle.std.specs.Prelude.{ℕ, ◌+◌, ◌*◌, ◌/◌, ◌%◌, ◌≤◌, ◌<◌, ◌≡◌, Bool, true, false, List, [], ◌∷◌, length, eqb}
+use Rattle.std.specs.Prelude.{ℕ, ◌+◌, ◌*◌, ◌/◌, ◌%◌, ◌≤◌, ◌<◌, ◌≡◌, Bool, true, false, List, [], ◌∷◌, Option, Some, None, length, eqb}
 use Rattle.endian.specs.Pick.{cons_if}
 use Rattle.endian.specs.Numbers.{number_at, Bytes}
 use Rattle.page.specs.Rows.{visible_rows, row_payload, rows_at}
@@ -80,6 +80,6 @@ pub record Places (s l : List ℕ) : Type 0 where
   pub at : (x : ℕ) → Has x l → Place s x
 
 -- what a step to the next order at or after slot k of page i finds
-pub record Met (s : List ℕ) (i k : ℕ) (n : NextOrder) : Type 0 where
-  pub none : n.over ≡ true → places_from s i k ≡ []
-  pub some : n.over ≡ false → (places_from s i k ≡ n.place ∷ places_from s n.page n.slot) × Place s n.place
+abbrev pub Met : List ℕ → ℕ → ℕ → Option NextOrder → Type 0
+Met s i k None = places_from s i k ≡ []
+Met s i k (Some n) = (places_from s i k ≡ n.place ∷ places_from s n.page n.slot) × Place s n.place

@@ -8,7 +8,7 @@ use crate::{ORDER_BYTES, Order};
 use endian::PageNumber;
 use endian::inner::{u32_at, u64_at};
 use page::inner::next_row;
-use page::{NextRow, ROW_HEAD_BYTES, Row};
+use page::{ROW_HEAD_BYTES, Row};
 
 // A place: page, then slot, then offset.
 const SLOT_SPAN: u64 = 4096;
@@ -27,10 +27,9 @@ const QUANTITY_AT: usize = ROW_HEAD_BYTES + 20;
 // The bytes of the shortest tuple that is an order.
 pub const TUPLE_BYTES: usize = ROW_HEAD_BYTES + ORDER_BYTES;
 
-// A step to the next order: whether there is none, its place, and the page and slot to go on from.
+// A step to the next order: its place, and the page and slot to go on from.
 #[derive(Clone, Copy)]
 pub struct NextOrder {
-    pub over: bool,
     pub place: u64,
     pub page: usize,
     pub slot: usize,
@@ -41,10 +40,7 @@ pub fn has_mark(pages: &[u8], at: usize, low: u64, high: u64) -> bool
     requires { at + 48 ≤ length pages.now }
     ensures { result ≡ eqb (number_at 16 (at + 24) pages.now) (wide low high) }
 {
-    if u64_at(pages, at + LOW_AT) != low {
-        return false;
-    }
-    u64_at(pages, at + HIGH_AT) == high
+    u64_at(pages, at + LOW_AT) == low && u64_at(pages, at + HIGH_AT) == high
 }
 
 // The order of a slot whose tuple starts at an offset.
@@ -104,32 +100,23 @@ pub fn order_of(pages: &[u8], x: u64) -> Order
 }
 
 // The first order at or after a slot of the page at an index.
-pub fn next_order(pages: &[u8], index: usize, slot: usize) -> NextOrder
+pub fn next_order(pages: &[u8], index: usize, slot: usize) -> Option<NextOrder>
     requires listable { Listable pages.now }
     requires pages_len_bound { length pages.now ≤ 1073741824 }
     ensures { Met pages.now index slot result }
 {
     let mut i = index;
     let mut k = slot;
-    loop {
-        let next = next_row(pages, i, k);
-        let NextRow::At(row) = next else {
-            return NextOrder {
-                over: true,
-                place: 0,
-                page: 0,
-                slot: 0,
-            };
-        };
+    while let Some(row) = next_row(pages, i, k) {
         i = row.page.0 as usize;
         k = row.slot + 1;
         if TUPLE_BYTES <= row.length {
-            return NextOrder {
-                over: false,
+            return Some(NextOrder {
                 place: place_of(row),
                 page: i,
                 slot: k,
-            };
+            });
         }
     }
+    None
 }

@@ -6,13 +6,10 @@ ghost use Rattle.intake.specs.Orders.{repeated_in};
 ghost use Rattle.intake.specs.Places.{low_at, mark_at, wide, Has, Place, Places, places_from};
 ghost use Rattle.intake.specs.Blocks.{rank_at, Sorted, Filled, Around, Firstly, Least, lesser_of, least_pair};
 
+use crate::RepeatedOrders;
 use crate::orders::{has_mark, high_at, low_at, next_order, order_of, tuple_at};
 use crate::sort::sort;
-use crate::{RepeatedOrders, none_repeated};
-use refusals::Verdict;
-
-// No place.
-const NOWHERE: u64 = 18446744073709551615;
+use sorting::inner::partition_point;
 
 // How many places a block has, and the page and slot to go on from.
 #[derive(Clone, Copy)]
@@ -22,7 +19,7 @@ pub struct Block {
     pub slot: usize,
 }
 
-// A pair of places, or nowhere.
+// A pair of places.
 #[derive(Clone, Copy)]
 pub struct Pair {
     pub first: u64,
@@ -37,24 +34,20 @@ fn fill(pages: &[u8], index: usize, slot: usize, a: &mut [u64]) -> Block
 {
     let mut i = index;
     let mut k = slot;
-    let mut len: usize = 0;
-    while len < a.len() {
-        let n = next_order(pages, i, k);
-        if n.over {
+    for len in 0..a.len() {
+        let Some(n) = next_order(pages, i, k) else {
             return Block {
                 len,
                 page: i,
                 slot: k,
             };
-        }
-        let x = n.place;
-        a[len] = x;
-        len += 1;
+        };
+        a[len] = n.place;
         i = n.page;
         k = n.slot;
     }
     Block {
-        len,
+        len: a.len(),
         page: i,
         slot: k,
     }
@@ -78,112 +71,93 @@ fn below(pages: &[u8], x: u64, low: u64, high: u64) -> bool
 // How many places of a sorted block have a mark below that of these halves.
 fn rank(pages: &[u8], a: &[u64], low: u64, high: u64) -> usize
     requires places { Places pages.now a.now }
-    requires sorted { Sorted (rank_at pages.now 2) a.now }
-    ensures { Around (mark_at pages.now) a.now (wide low high) result result }
+    requires sorted { Sorted (rank_at pages.now) a.now }
+    ensures { Around (mark_at pages.now) a.now (wide low high) result }
 {
-    let mut lo: usize = 0;
-    let mut hi: usize = a.len();
-    while lo < hi {
-        let mid = lo + (hi - lo) / 2;
-        let x = a[mid];
-        if below(pages, x, low, high) {
-            lo = mid + 1;
-            continue;
-        }
-        hi = mid;
-    }
-    lo
+    partition_point(a.len(), |i| below(pages, a[i], low, high))
 }
 
-// The first place of a sorted block with the mark of these halves, or nowhere.
-fn first_with(pages: &[u8], a: &[u64], low: u64, high: u64) -> u64
+// The first place of a sorted block with the mark of these halves.
+fn first_with(pages: &[u8], a: &[u64], low: u64, high: u64) -> Option<u64>
     requires places { Places pages.now a.now }
-    requires sorted { Sorted (rank_at pages.now 2) a.now }
+    requires sorted { Sorted (rank_at pages.now) a.now }
     ensures { Firstly (mark_at pages.now) (wide low high) a.now result }
 {
     let i = rank(pages, a, low, high);
     if a.len() <= i {
-        return NOWHERE;
+        return None;
     }
     let x = a[i];
     if has_mark(pages, tuple_at(x), low, high) {
-        return x;
+        return Some(x);
     }
-    NOWHERE
+    None
 }
 
-// The less of a pair and of a place with a later one.
-fn lesser(p: Pair, first: u64, second: u64) -> Pair
-    ensures { result ≡ lesser_of p first second }
+// The less of a pair, if there is one, and of a place with a later one.
+fn lesser(best: Option<Pair>, first: u64, second: u64) -> Option<Pair>
+    ensures { result ≡ lesser_of best first second }
 {
     if second <= first {
-        return p;
+        return best;
     }
-    if p.first <= first {
-        return p;
+    if let Some(p) = best {
+        if p.first <= first {
+            return best;
+        }
     }
-    Pair { first, second }
+    Some(Pair { first, second })
 }
 
 // The least pair of an order of the block and a later one, over the orders from a slot of the page at an index on.
-fn pass(pages: &[u8], index: usize, slot: usize, a: &[u64]) -> Pair
+fn pass(pages: &[u8], index: usize, slot: usize, a: &[u64]) -> Option<Pair>
     requires listable { Listable pages.now }
     requires pages_len_bound { length pages.now ≤ 1073741824 }
     requires places { Places pages.now a.now }
-    requires sorted { Sorted (rank_at pages.now 2) a.now }
+    requires sorted { Sorted (rank_at pages.now) a.now }
     ensures { Least (mark_at pages.now) a.now (places_from pages.now index slot) result }
 {
-    let mut best = Pair {
-        first: NOWHERE,
-        second: NOWHERE,
-    };
+    let mut best = None;
     let mut i = index;
     let mut k = slot;
-    loop {
-        let n = next_order(pages, i, k);
-        if n.over {
-            return best;
-        }
+    while let Some(n) = next_order(pages, i, k) {
         let x = n.place;
-        let f = first_with(pages, a, low_at(pages, x), high_at(pages, x));
-        best = lesser(best, f, x);
+        if let Some(f) = first_with(pages, a, low_at(pages, x), high_at(pages, x)) {
+            best = lesser(best, f, x);
+        }
         i = n.page;
         k = n.slot;
     }
+    best
 }
 
 // The least pair of the orders from the first of a block on that has its earlier order in the block; the block's places are put in order.
-fn least_in(pages: &[u8], index: usize, slot: usize, a: &mut [u64], len: usize) -> Pair
+fn least_in(pages: &[u8], index: usize, slot: usize, a: &mut [u64]) -> Option<Pair>
     requires listable { Listable pages.now }
     requires pages_len_bound { length pages.now ≤ 1073741824 }
-    requires len_in_bounds { len ≤ length a.old }
-    requires places { Places pages.now (take len a.old) }
-    ensures { Least (mark_at pages.now) (take len a.old) (places_from pages.now index slot) result }
+    requires places { Places pages.now a.old }
+    ensures { Least (mark_at pages.now) a.old (places_from pages.now index slot) result }
 {
-    sort(pages, a, len);
-    pass(pages, index, slot, &a[..len])
+    sort(pages, a);
+    pass(pages, index, slot, a)
 }
 
-// The least pair of all.
-fn least(pages: &[u8], a: &mut [u64]) -> Pair
+// The least pair of all: block after block. Where the next one begins is known only once one is filled, so no range is gone through.
+fn least(pages: &[u8], a: &mut [u64]) -> Option<Pair>
     requires listable { Listable pages.now }
     requires pages_len_bound { (length pages.now ≤ 1073741824) × (0 < length a.old) }
     ensures { result ≡ least_pair (mark_at pages.now) (places_from pages.now 0 0) }
 {
-    let mut i: usize = 0;
-    let mut k: usize = 0;
+    let mut i = 0;
+    let mut k = 0;
     loop {
         let b = fill(pages, i, k, a);
         let len = b.len;
         if len == 0 {
-            return Pair {
-                first: NOWHERE,
-                second: NOWHERE,
-            };
+            return None;
         }
-        let p = least_in(pages, i, k, a, len);
-        if p.first < NOWHERE {
-            return p;
+        if let Some(p) = least_in(pages, i, k, &mut a[..len]) {
+            return Some(p);
         }
         i = b.page;
         k = b.slot;
@@ -191,23 +165,14 @@ fn least(pages: &[u8], a: &mut [u64]) -> Pair
 }
 
 // The least pair of visible orders with the same mark.
-pub fn repeated(pages: &[u8], a: &mut [u64]) -> RepeatedOrders
+pub fn repeated(pages: &[u8], a: &mut [u64]) -> Option<RepeatedOrders>
     requires listable { Listable pages.now }
     requires pages_len_bound { (length pages.now ≤ 1073741824) × (0 < length a.old) }
     ensures { result ≡ repeated_in pages.now (visible_rows pages.now) }
 {
-    let p = least(pages, a);
-    let v = Verdict {
-        number: 0,
-        place: 0,
-    };
-    if NOWHERE <= p.first {
-        return none_repeated(v);
-    }
-    RepeatedOrders {
-        verdict: v,
-        found: true,
+    let p = least(pages, a)?;
+    Some(RepeatedOrders {
         first: order_of(pages, p.first),
         second: order_of(pages, p.second),
-    }
+    })
 }

@@ -1,29 +1,29 @@
 // The search for a mark: page by page, each verified and then gone over while it is at hand, over all rows wherever the order stands.
 ghost use Rattle.std.specs.Prelude.{false, ◌≡◌, ◌+◌, ◌<◌, length};
-ghost use Rattle.crc32c.specs.Tables.{Tables};
+ghost use Rattle.refusals.specs.Verdict.{by_number};
 ghost use Rattle.page.specs.Layout.{page_bytes, data_type, type_of, count_of, body_of, slot_off, slot_len, slot_at};
 ghost use Rattle.page.specs.Good.{DataGood};
 ghost use Rattle.page.specs.Fault.{size_wrong};
 ghost use Rattle.page.specs.Rows.{visible};
 ghost use Rattle.intake.specs.Orders.{order_found};
 ghost use Rattle.intake.specs.Places.{wide};
-ghost use Rattle.intake.specs.Search.{is_short, short_slots, is_marked, first_slot, slots_found, both, with_page};
+ghost use Rattle.intake.specs.Search.{is_short, short_slots, is_marked, first_slot, first_order, slots_found, both, with_page};
 
 use crate::orders::{TUPLE_BYTES, has_mark, order_at};
-use crate::{FoundOrder, no_order, refused};
+use crate::{FoundOrder, Order};
 use crc32c::inner::Tables;
 use endian::PageNumber;
 use endian::inner::u64_at;
-use page::inner::{count, kind, slot_len, slot_off, verify_from};
+use page::inner::{count, kind, page_at, slot_len, slot_off, verify_from};
 use page::{DATA_TYPE, HEAD_BYTES, PAGE_BYTES};
-use refusals::Verdict;
+use refusals::Refused;
 
 // Where in a page the xmax and the deleted byte of a tuple at the body's start stand.
 const XMAX_AT: usize = HEAD_BYTES + 8;
 
 const DELETED_AT: usize = HEAD_BYTES + 16;
 
-// Whether slot k holds a visible row, whose tuple starts at o of the body.
+// Whether slot k holds a visible row, whose tuple starts at o of the body, which the caller has read; `page` looks at its own rows by the slot alone.
 fn is_visible(page: &[u8], k: usize, o: usize) -> bool
     requires page_len { length page.now ≡ page_bytes }
     requires data_good { DataGood page.now }
@@ -59,16 +59,11 @@ fn short_slots(page: &[u8]) -> usize
     requires data_good { DataGood page.now }
     ensures { (result ≡ short_slots page.now (count_of page.now) 0) × (result < 65536) }
 {
-    let n = count(page);
-    let mut short: usize = 0;
-    let mut k: usize = 0;
-    while k < n {
+    let mut short = 0;
+    for k in 0..count(page) {
         if is_short(page, k) {
             short += 1;
-            k += 1;
-            continue;
         }
-        k += 1;
     }
     short
 }
@@ -91,21 +86,29 @@ fn is_marked(page: &[u8], k: usize, low: u64, high: u64) -> bool
     false
 }
 
-// The first slot of a Data page that does, or the item count where none does.
-fn first_slot(page: &[u8], low: u64, high: u64) -> usize
+// The first slot of a Data page that does.
+fn first_slot(page: &[u8], low: u64, high: u64) -> Option<usize>
     requires page_len { length page.now ≡ page_bytes }
     requires data_good { DataGood page.now }
     ensures { result ≡ first_slot (wide low high) page.now (count_of page.now) 0 }
 {
-    let n = count(page);
-    let mut k: usize = 0;
-    while k < n {
+    for k in 0..count(page) {
         if is_marked(page, k, low, high) {
-            return k;
+            return Some(k);
         }
-        k += 1;
     }
-    k
+    None
+}
+
+// The first order with the mark of these halves on the Data page at an index.
+fn first_order(page: &[u8], index: usize, low: u64, high: u64) -> Option<Order>
+    requires page_len { length page.now ≡ page_bytes }
+    requires data_good { DataGood page.now }
+    ensures { result ≡ first_order (wide low high) index page.now (count_of page.now) }
+{
+    let k = first_slot(page, low, high)?;
+    let at = HEAD_BYTES + slot_off(page, k);
+    Some(order_at(page, PageNumber(index as u64), k, at))
 }
 
 // What is known after all slots of a Data page: its short payloads are counted, and its first order with the mark is looked for where none is known yet.
@@ -115,32 +118,13 @@ fn met_slots(page: &[u8], index: usize, low: u64, high: u64, known: FoundOrder) 
     requires short_bound { known.short + 65536 < 18446744073709551616 }
     ensures { result ≡ both known (slots_found (wide low high) index page.now (count_of page.now)) }
 {
-    let v = known.verdict;
-    let short = known.short + short_slots(page);
-    if known.found {
-        let o = known.order;
-        return FoundOrder {
-            verdict: v,
-            found: true,
-            order: o,
-            short: short,
-        };
-    }
-    let k = first_slot(page, low, high);
-    if k < count(page) {
-        let at = HEAD_BYTES + slot_off(page, k);
-        return FoundOrder {
-            verdict: v,
-            found: true,
-            order: order_at(page, PageNumber(index as u64), k, at),
-            short: short,
-        };
-    }
+    let order = match known.order {
+        Some(o) => Some(o),
+        None => first_order(page, index, low, high),
+    };
     FoundOrder {
-        verdict: v,
-        found: false,
-        order: no_order(),
-        short: short,
+        order,
+        short: known.short + short_slots(page),
     }
 }
 
@@ -158,31 +142,24 @@ fn met_page(page: &[u8], index: usize, low: u64, high: u64, known: FoundOrder) -
 }
 
 // The first visible order with the mark of these halves, and how many visible payloads are short; or the refusal of the first page that is not good.
-pub fn find(t: &Tables, magic: u64, pages: &[u8], low: u64, high: u64) -> FoundOrder
-    requires tables { Tables t.now }
-    requires pages_value { size_wrong pages.now ≡ false }
-    ensures { result ≡ order_found magic pages.now (wide low high) }
+pub fn find(
+    t: &Tables,
+    magic: u64,
+    pages: &[u8],
+    low: u64,
+    high: u64,
+) -> Result<FoundOrder, Refused>
+    requires { size_wrong pages.now ≡ false }
+    ensures { by_number result ≡ order_found magic pages.now (wide low high) }
 {
-    let n = pages.len() / PAGE_BYTES;
     let mut known = FoundOrder {
-        verdict: Verdict {
-            number: 0,
-            place: 0,
-        },
-        found: false,
-        order: no_order(),
+        order: None,
         short: 0,
     };
-    let mut i: usize = 0;
-    while i < n {
-        let a = i * PAGE_BYTES;
-        let e = a + PAGE_BYTES;
-        let v = verify_from(t, magic, &pages[..e], i);
-        if v.number != 0 {
-            return refused(v);
-        }
-        known = met_page(&pages[a..e], i, low, high, known);
-        i += 1;
+    for i in 0..pages.len() / PAGE_BYTES {
+        let e = i * PAGE_BYTES + PAGE_BYTES;
+        verify_from(t, magic, &pages[..e], i)?;
+        known = met_page(page_at(pages, i), i, low, high, known);
     }
-    known
+    Ok(known)
 }

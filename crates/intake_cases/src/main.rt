@@ -4,7 +4,9 @@
 
 ghost use Rattle.std.specs.Prelude.{◌≡◌, ◌≤◌, ◌<◌, length};
 
+use endian::PageNumber;
 use intake::Order;
+use refusals::Refused;
 use std::io;
 
 const MAGIC: u64 = 0x0123_4567_89AB_CDEF;
@@ -103,30 +105,65 @@ fn show(rt: &impl Print, o: Order) -> io::Result<()> {
     )
 }
 
+// What a refused search shows in place of an order.
+fn show_none(rt: &impl Print) -> io::Result<()> {
+    show(
+        rt,
+        Order {
+            page: PageNumber(0),
+            slot: 0,
+            part: 0,
+            quantity: 0,
+        },
+    )
+}
+
+fn show_found(rt: &impl Print, o: Option<Order>) -> io::Result<()> {
+    match o {
+        Some(o) => show(rt, o),
+        None => show_none(rt),
+    }
+}
+
+fn show_refused(rt: &impl Print, e: Refused) -> io::Result<()> {
+    print!(rt; "{} at {}, found 0", e.refusal.number(), e.place)
+}
+
 fn find(rt: &impl Print, pages: &[u8], low: u64, high: u64) -> io::Result<()> {
     let mut mark = [0u8; 16];
     endian::put_u64(&mut mark, 0, low);
     endian::put_u64(&mut mark, 8, high);
-    let f = intake::find(MAGIC, pages, &mark);
-    let v = f.verdict;
-    print!(rt;
-        "mark {low}: {} at {}, found {}",
-        v.number, v.place, f.found as u8
-    )?;
-    show(rt, f.order)?;
-    println!(rt; ", short {}", f.short)
+    print!(rt; "mark {low}: ")?;
+    match intake::find(MAGIC, pages, &mark) {
+        Ok(f) => {
+            print!(rt; "0 at 0, found {}", f.order.is_some() as u8)?;
+            show_found(rt, f.order)?;
+            println!(rt; ", short {}", f.short)
+        }
+        Err(e) => {
+            show_refused(rt, e)?;
+            show_none(rt)?;
+            println!(rt; ", short 0")
+        }
+    }
 }
 
 fn repeated(rt: &impl Print, pages: &[u8]) -> io::Result<()> {
-    let f = intake::repeated(MAGIC, pages);
-    let v = f.verdict;
-    print!(rt;
-        "repeated: {} at {}, found {},",
-        v.number, v.place, f.found as u8
-    )?;
-    show(rt, f.first)?;
+    print!(rt; "repeated: ")?;
+    let pair = match intake::repeated(MAGIC, pages) {
+        Ok(pair) => {
+            print!(rt; "0 at 0, found {},", pair.is_some() as u8)?;
+            pair
+        }
+        Err(e) => {
+            show_refused(rt, e)?;
+            print!(rt; ",")?;
+            None
+        }
+    };
+    show_found(rt, pair.map(|p| p.first))?;
     print!(rt; ",")?;
-    show(rt, f.second)?;
+    show_found(rt, pair.map(|p| p.second))?;
     println!(rt)
 }
 

@@ -12,8 +12,8 @@ use Rattle.page.specs.Writer.{with_slot}
 use Rattle.page.proofs.Tables.{length-tab}
 use Rattle.page.proofs.Packing.{Packing, packing-room, packing-next}
 use Rattle.rules.specs.Mend.{committed, top_of, decided, slots_for}
-use Rattle.images.specs.Tuples.{tuple_in, Stood}
-use Rattle.images.specs.declared.Image.{Image}
+use Rattle.change.specs.Tuples.{tuple_in, Stood}
+use Rattle.change.specs.declared.Image.{Image}
 
 -- what slot k of page i, which is p, is to hold by the log s
 abbrev pub wanted : List ℕ → ℕ → List ℕ → ℕ → List ℕ

@@ -1,10 +1,10 @@
 -- One page mended: as it was where it is untouched, else repacked.
 -- Assumes nothing.
 use mathlib.Core.Path.{◌≡◌, refl, sym, ap, ◌∙◌}
-use Prim.Native.Nat.{ℕ, zero, suc, ◌+◌, ◌-◌, ◌*◌, ◌<◌}
+use Prim.Native.Nat.{ℕ, zero, suc, ◌*◌, ◌<◌}
 use native.Mathlib.Omega.{arith}
 use mathlib.Core.List.{List}
-use lib.ListN.{take, drop, get_or}
+use lib.ListN.{get_or}
 use lib.Seq.{paste}
 use borrow.Author.Tests.{lt-ltb, le-ltb}
 use Rattle.wal.specs.Entry.{Entry}
@@ -12,7 +12,6 @@ use Rattle.wal.specs.Walk.{entries, end_of}
 use Rattle.wal.proofs.Prefix.{before-end}
 use Rattle.page.specs.Layout.{page_bytes, page_at}
 use Rattle.page.proofs.Pasting.{paste-own}
-use Rattle.page.proofs.Verdicts.{page-part}
 use Rattle.rules.specs.Order.{one}
 use Rattle.rules.specs.Mend.{committed, top_of, repacked, unless, mend_by, mend}
 use Rattle.rules.specs.Recover.{is_touched}
@@ -39,10 +38,9 @@ module _ (es : List Entry) (i : ℕ) where
     unfolding mend mend_by
     mend-touched p = sym (unless-touched (top_of i es) p (repacked (committed es) es i p) h)
 
-    -- stored where the page stood, as code lends it
-    pub paste-touched : (d : List ℕ) {v w : List ℕ} → v ≡ paste d (i * page_bytes) w page_bytes
-        → w ≡ repacked (committed es) es i (take (i * page_bytes + page_bytes - i * page_bytes) (drop (i * page_bytes) d)) → v ≡ paste d (i * page_bytes) (mend es i (page_at i d)) page_bytes
-    paste-touched d e f = e ∙ ap (λ (u : List ℕ). paste d (i * page_bytes) u page_bytes) (f ∙ ap (repacked (committed es) es i) (page-part d i) ∙ mend-touched (page_at i d))
+    -- stored where the page stood
+    pub paste-touched : (d : List ℕ) {v w p : List ℕ} → v ≡ paste d (i * page_bytes) w page_bytes → w ≡ repacked (committed es) es i p → p ≡ page_at i d → v ≡ paste d (i * page_bytes) (mend es i (page_at i d)) page_bytes
+    paste-touched d e f q = e ∙ ap (λ (u : List ℕ). paste d (i * page_bytes) u page_bytes) (f ∙ ap (repacked (committed es) es i) q ∙ mend-touched (page_at i d))
 
     pub one-touched : 1 ≡ one (is_touched es i)
     one-touched = rw (lt-ltb 0 (top_of i es) h)

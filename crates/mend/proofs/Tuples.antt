@@ -1,73 +1,39 @@
 -- The tuple that an image stands for, as code cuts it out.
 -- Assumes nothing.
-use mathlib.Core.Path.{◌≡◌, refl, sym, ap, ◌∙◌}
-use mathlib.Core.Bool.{Bool, true, false}
-use Prim.Native.Nat.{ℕ, ◌+◌, ◌-◌, ◌*◌, ◌≤◌, max}
+use mathlib.Core.Path.{◌≡◌, ap, ◌∙◌}
+use Prim.Native.Nat.{ℕ, ◌+◌, ◌-◌, ◌*◌, ◌≤◌}
 use native.Mathlib.Omega.{arith}
 use mathlib.Core.List.{List}
-use lib.ListN.{length, take, drop, length-drop}
+use lib.ListN.{length, drop, length-drop}
 use lib.Seq.{paste, length-take-le}
-use Rattle.endian.specs.Pick.{pick}
+use Rattle.std.specs.Prelude.{None, Some}
 use Rattle.endian.specs.Numbers.{part, bytes_of}
+use Rattle.endian.specs.declared.TxnNumber.{TxnNumber}
 use Rattle.page.specs.Layout.{page_bytes, body_bytes, head_bytes}
 use Rattle.page.specs.Writer.{with_slot}
 use Rattle.rules.specs.Shape.{stamped}
-use Rattle.rules.proofs.Tests.{false-true}
-use Rattle.images.specs.Tuples.{tuple_in, Lies}
-use Rattle.images.specs.declared.Image.{Image}
+use Rattle.change.specs.declared.Image.{Image}
+use Rattle.change.specs.Tuples.{source_in, tuple_in, Lies}
 use Rattle.mend.proofs.Stamping.{stamped-slot}
 
--- the image's bytes in a list, as `&l[place..place + length]`
-abbrev pub cut : List ℕ → Image → List ℕ
-cut l m = take (m.place + m.length - m.place) (drop m.place l)
+-- b are the image's bytes
+module _ {s p : List ℕ} {m : Image} (l : Lies s p m) {b : List ℕ} (is : b ≡ part m.place m.length (source_in s p m.source)) where
+  pub bytes-long : length b ≡ m.length
+  bytes-long = ap length is ∙ length-take-le m.length (drop m.place (source_in s p m.source)) (simp length-drop (omega (arith, l.within)))
 
-cut-is : (l : List ℕ) (m : Image) → cut l m ≡ part m.place m.length l
-cut-is l m = let e : m.place + m.length - m.place ≡ m.length = omega arith in rw e
+  pub plain-tuple : m.deleted_by ≡ None → b ≡ tuple_in s p m
+  unfolding tuple_in
+  plain-tuple h = rw h is
 
-module _ {s p : List ℕ} {m : Image} (l : Lies s p m) where
-  pub lies-end : m.place + m.length ≤ max (length s) (length p)
-  lies-end = go m.logged l.within
-    where
-      go : (b : Bool) → m.place + m.length ≤ length (pick b s p) → m.place + m.length ≤ max (length s) (length p)
-      go true h = omega arith
-      go false h = omega arith
-
-  -- in the page
-  module _ (out : m.logged ≡ false) where
-    pub page-end : m.place + m.length ≤ length p
-    page-end = rw out at l.within
-
-    pub page-long : length (cut p m) ≡ m.length
-    page-long = ap length (cut-is p m) ∙ length-take-le m.length (drop m.place p) (simp length-drop (omega (arith, page-end)))
-
-    pub page-tuple : cut p m ≡ tuple_in s p m
+  module _ (x : TxnNumber) (h : m.deleted_by ≡ Some x) where
+    stamped-bytes : stamped x.0 b ≡ tuple_in s p m
     unfolding tuple_in
-    page-tuple = go m.stamped refl
-      where
-        go : (b : Bool) → m.stamped ≡ b → cut p m ≡ tuple_in s p m
-        go true h = false-true (sym out ∙ (l.headed h).0)
-        go false h = rw (h, out) (cut-is p m)
-
-  -- in the log
-  module _ (within : m.logged ≡ true) where
-    pub log-end : m.place + m.length ≤ length s
-    log-end = rw within at l.within
-
-    pub log-long : length (cut s m) ≡ m.length
-    log-long = ap length (cut-is s m) ∙ length-take-le m.length (drop m.place s) (simp length-drop (omega (arith, log-end)))
-
-    pub log-tuple : m.stamped ≡ false → cut s m ≡ tuple_in s p m
-    unfolding tuple_in
-    log-tuple h = rw (h, within) (cut-is s m)
-
-    log-stamped : m.stamped ≡ true → stamped m.by.0 (cut s m) ≡ tuple_in s p m
-    unfolding tuple_in
-    log-stamped h = rw (h, within) (ap (stamped m.by.0) (cut-is s m))
+    stamped-bytes = rw h (ap (stamped x.0) is)
 
     -- put in its slot, and then stamped
-    pub stamped-tuple : (d w1 w2 : List ℕ) (k top start : ℕ) → m.stamped ≡ true → length d ≡ page_bytes → 4 * k + 4 + m.length ≤ top → top ≤ body_bytes → start ≡ top - length (cut s m)
-        → w1 ≡ with_slot d k top (cut s m) → w2 ≡ paste (paste w1 (head_bytes + start + 8) (bytes_of 8 m.by.0) 8) (head_bytes + start + 16) (bytes_of 1 1) 1
+    pub stamped-tuple : (d w1 w2 : List ℕ) (k top start : ℕ) → length d ≡ page_bytes → 4 * k + 4 + m.length ≤ top → top ≤ body_bytes → start ≡ top - length b
+        → w1 ≡ with_slot d k top b → w2 ≡ paste (paste w1 (head_bytes + start + 8) (bytes_of 8 x.0) 8) (head_bytes + start + 16) (bytes_of 1 1) 1
         → w2 ≡ with_slot d k top (tuple_in s p m)
-    stamped-tuple d w1 w2 k top start h ld room low es e1 e2 =
-        stamped-slot d (cut s m) w1 w2 k top m.by.0 ld (omega (arith, log-long)) low (omega (arith, log-long, (l.headed h).1)) e1 (rw es at e2)
-        ∙ ap (with_slot d k top) (log-stamped h)
+    stamped-tuple d w1 w2 k top start ld room low es e1 e2 =
+        stamped-slot d b w1 w2 k top x.0 ld (omega (arith, bytes-long)) low (omega (arith, bytes-long, (l.headed x h).1)) e1 (rw es at e2)
+        ∙ ap (with_slot d k top) stamped-bytes

@@ -1,30 +1,26 @@
 // What other crates call with a `requires`: mending all touched pages.
 ghost use Rattle.std.specs.Prelude.{◌≡◌, ◌+◌, ◌-◌, ◌*◌, ◌≤◌, ◌<◌, max, length, replicate};
 ghost use Rattle.std.proofs.Math.Seq.{paste};
-ghost use Rattle.crc32c.specs.Tables.{Tables};
 ghost use Rattle.endian.specs.Numbers.{bytes_of, number_at};
 ghost use Rattle.wal.specs.Walk.{entries, end_of};
-ghost use Rattle.page.specs.Layout.{page_bytes, body_bytes, body_of, count_of, page_at, magic_of, type_of, id_of, lsn_of};
+ghost use Rattle.page.specs.Layout.{page_bytes, body_bytes, body_of, page_at, magic_of, type_of, id_of, lsn_of};
 ghost use Rattle.page.specs.Packed.{room_for, body, tuple_bytes};
 ghost use Rattle.page.specs.Writer.{with_slot};
 ghost use Rattle.rules.specs.Order.{one};
-ghost use Rattle.rules.specs.Mend.{committed, top_of, slots_for, repacked, mend};
+ghost use Rattle.rules.specs.Mend.{committed, slots_for, repacked, mend};
 ghost use Rattle.rules.specs.Recover.{is_touched, mended_from, touched_from};
-ghost use Rattle.fates.specs.Fate.{Ordered};
-ghost use Rattle.cells.specs.Cell.{Starts};
-ghost use Rattle.cells.specs.Listing.{Lists};
 ghost use Rattle.cells.specs.Measure.{LastAt, Lasts};
-ghost use Rattle.decide.specs.Lists.{Listed};
-ghost use Rattle.images.specs.Tuples.{Lies, tuple_in};
-ghost use Rattle.images.specs.Page.{PageCells, Sound, Touched, Fitting};
+ghost use Rattle.change.specs.Tuples.{Lies, tuple_in};
+ghost use Rattle.images.specs.Page.{Sound, Touched, Fitting};
 
+use change::Image;
 use crc32c::inner::Tables;
-use decide::inner::decide;
+use decide::Changes;
 use endian::Lsn;
 use endian::inner::{put_u64, u64_at};
-use images::Image;
-use images::inner::{slot_image, slots_for, top_of};
-use page::inner::{id, kind, lsn, magic, put_slot, seal, store};
+use images::Slots;
+use images::inner::bytes;
+use page::inner::{id, kind, lsn, magic, page_at, put_slot, seal, store};
 use page::{BODY_BYTES, HEAD_BYTES, PAGE_BYTES, PageHead, RESERVED_AT};
 
 // Stamps the tuple that starts at a place of the working page as deleted by transaction x.
@@ -43,170 +39,111 @@ fn put_image(work: &mut [u8], k: usize, top: usize, log: &[u8], page: &[u8], m: 
     ensures value { result ≡ top - m.length }
     ensures work_after { work.new ≡ with_slot work.old k top (tuple_in log.now page.now m) }
 {
-    let a = m.place;
-    let e = a + m.length;
-    if !m.logged {
-        return put_slot(work, k, top, &page[a..e]);
-    }
-    let start = put_slot(work, k, top, &log[a..e]);
-    if m.stamped {
-        let x = m.by;
-        stamp(work, HEAD_BYTES + start, x.0);
-    }
+    let start = put_slot(work, k, top, bytes(m, log, page));
+    let Some(x) = m.deleted_by else {
+        return start;
+    };
+    stamp(work, HEAD_BYTES + start, x.0);
     start
 }
 
-// Fills a zeroed working page with the n slots of page i and their tuples. Gives back where the last tuple starts.
-fn fill(
-    work: &mut [u8],
-    log: &[u8],
-    page: &[u8],
-    starts: &[u32; 4097],
-    i: usize,
-    cells: &[u32; 4080],
-    n: usize,
-) -> usize
+// Fills a zeroed working page with the slots that a page is to have and their tuples. Gives back where the last tuple starts.
+fn fill(work: &mut [u8], slots: &Slots) -> usize
     requires work_value { work.old ≡ replicate page_bytes 0 }
-    requires ordered { Ordered log.now }
-    requires page_cells { PageCells log.now i starts.now cells.now }
-    requires sound { Sound page.now }
-    requires n_value { (n ≡ max (count_of page.now) (top_of i (entries log.now))) × (room_for (slots_for (committed (entries log.now)) (entries log.now) i page.now) ≤ body_bytes) }
-    ensures value { result ≡ body_bytes - tuple_bytes (slots_for (committed (entries log.now)) (entries log.now) i page.now) }
-    ensures work_after { body_of work.new ≡ body (slots_for (committed (entries log.now)) (entries log.now) i page.now) }
+    requires sound { Sound slots.now.page.now }
+    requires fits { room_for (slots_for (committed (entries slots.now.log.now)) (entries slots.now.log.now) slots.now.i slots.now.page.now) ≤ body_bytes }
+    ensures value { result ≡ body_bytes - tuple_bytes (slots_for (committed (entries slots.now.log.now)) (entries slots.now.log.now) slots.now.i slots.now.page.now) }
+    ensures work_after { body_of work.new ≡ body (slots_for (committed (entries slots.now.log.now)) (entries slots.now.log.now) slots.now.i slots.now.page.now) }
 {
+    let n = slots.count();
     let mut top = BODY_BYTES;
-    let mut k: usize = 0;
-    while k < n {
-        let m = slot_image(log, page, starts, i, cells, k);
-        top = put_image(work, k, top, log, page, m);
-        k += 1;
+    for k in 0..n {
+        let m = slots.image(k);
+        top = put_image(work, k, top, slots.log, slots.page, m);
     }
     top
 }
 
-fn larger(a: u64, b: u64) -> u64
-    ensures { result ≡ max a b }
-{
-    if a < b {
-        return b;
-    }
-    a
-}
-
-// What page i is to keep in its header, and the larger of its own LSN and that of the change at a place, the last one on it.
+// What a page is to keep in its header, and the larger of its own LSN and that of the change at a place, the last one on it.
 fn head_for(log: &[u8], page: &[u8], at: usize) -> PageHead
     requires { (length page.now ≡ page_bytes) × (at + 12 ≤ length log.now) }
     ensures { (result.magic ≡ magic_of page.now) × (result.kind ≡ type_of page.now) × (result.id.0 ≡ id_of page.now) × (result.lsn.0 ≡ max (lsn_of page.now) (number_at 8 (at + 4) log.now)) }
 {
     let own = lsn(page);
-    let l = larger(own.0, u64_at(log, at + 4));
     PageHead {
         magic: magic(page),
         kind: kind(page),
         id: id(page),
-        lsn: Lsn(l),
+        lsn: Lsn(own.0.max(u64_at(log, at + 4))),
     }
 }
 
-// Writes page i, repacked, into a zeroed working page; the last change on it is at the place last.
-fn repack(
-    t: &Tables,
-    work: &mut [u8],
-    log: &[u8],
-    page: &[u8],
-    i: usize,
-    starts: &[u32; 4097],
-    last: usize,
-    cells: &[u32; 4080],
-)
-    requires tables { Tables t.now }
+// Writes a page, repacked, into a zeroed working page; the last change on it is at the place last.
+fn repack(t: &Tables, work: &mut [u8], slots: &Slots, last: usize)
     requires work_value { work.old ≡ replicate page_bytes 0 }
-    requires ordered { Ordered log.now }
-    requires page_cells { PageCells log.now i starts.now cells.now }
-    requires sound { Sound page.now }
-    requires last_at { LastAt log.now (end_of log.now) i last }
-    requires page_bound { room_for (slots_for (committed (entries log.now)) (entries log.now) i page.now) ≤ body_bytes }
-    ensures { work.new ≡ repacked (committed (entries log.now)) (entries log.now) i page.now }
+    requires sound { Sound slots.now.page.now }
+    requires last_at { LastAt slots.now.log.now (end_of slots.now.log.now) slots.now.i last }
+    requires fits { room_for (slots_for (committed (entries slots.now.log.now)) (entries slots.now.log.now) slots.now.i slots.now.page.now) ≤ body_bytes }
+    ensures { work.new ≡ repacked (committed (entries slots.now.log.now)) (entries slots.now.log.now) slots.now.i slots.now.page.now }
 {
-    let n = slots_for(page, starts, i);
-    let top = fill(work, log, page, starts, i, cells, n);
-    let h = head_for(log, page, last);
-    seal(t, work, h, &page[RESERVED_AT..HEAD_BYTES], n, top);
+    let top = fill(work, slots);
+    let h = head_for(slots.log, slots.page, last);
+    seal(
+        t,
+        work,
+        h,
+        &slots.page[RESERVED_AT..HEAD_BYTES],
+        slots.count(),
+        top,
+    );
 }
 
 // Mends page i in its place: built in a working page first. Says how many pages it rewrote, 0 or 1.
 fn mend_page(
     t: &Tables,
-    log: &[u8],
+    changes: &Changes,
     pages: &mut [u8],
-    n: usize,
-    starts: &[u32; 4097],
-    lasts: &[u32; 4096],
-    lists: &[u32; 4097],
-    fronts: &[u32; 4096],
-    space: &[u8; 655360],
     i: usize,
     cells: &mut [u32; 4080],
 ) -> u64
-    requires tables { Tables t.now }
-    requires ordered { Ordered log.now }
-    requires starts { Starts (entries log.now) n starts.now }
-    requires lasts { Lasts log.now (end_of log.now) n lasts.now }
-    requires lists { Lists (entries log.now) n lists.now }
-    requires listed { Listed log.now n fronts.now space.now }
-    requires touched { Touched log.now pages.old i (i + 1) }
-    requires fitting { Fitting log.now pages.old i (i + 1) }
-    requires i_lt_n { (i < n) × (n ≤ 4096) × (length log.now ≤ 16777216) × (length pages.old ≡ n * page_bytes) }
-    ensures pages_after { pages.new ≡ paste pages.old (i * page_bytes) (mend (entries log.now) i (page_at i pages.old)) page_bytes }
-    ensures value { result ≡ one (is_touched (entries log.now) i) }
+    requires lasts { Lasts changes.now.log.now (end_of changes.now.log.now) changes.now.n changes.now.scratch.now.lasts }
+    requires touched { Touched changes.now.log.now pages.old i (i + 1) }
+    requires fitting { Fitting changes.now.log.now pages.old i (i + 1) }
+    requires i_lt_n { (i < changes.now.n) × (length pages.old ≡ changes.now.n * page_bytes) }
+    ensures pages_after { pages.new ≡ paste pages.old (i * page_bytes) (mend (entries changes.now.log.now) i (page_at i pages.old)) page_bytes }
+    ensures value { result ≡ one (is_touched (entries changes.now.log.now) i) }
 {
-    let top = top_of(starts, i);
+    let top = changes.top(i);
     if top == 0 {
         return 0;
     }
-    decide(log, n, lists, fronts, space, i, top, cells);
-    let a = i * PAGE_BYTES;
-    let e = a + PAGE_BYTES;
-    let last = lasts[i] as usize;
+    changes.decide(i, top, cells);
     let mut work = [0u8; PAGE_BYTES];
-    repack(t, &mut work, log, &pages[a..e], i, starts, last, cells);
+    let slots = Slots {
+        log: changes.log,
+        page: page_at(pages, i),
+        i,
+        top,
+        cells,
+    };
+    repack(t, &mut work, &slots, changes.scratch.lasts[i] as usize);
     store(pages, i, &work);
     1
 }
 
-// Mends all n pages and says how many it rewrote.
-pub fn mend_all(
-    t: &Tables,
-    log: &[u8],
-    pages: &mut [u8],
-    n: usize,
-    starts: &[u32; 4097],
-    lasts: &[u32; 4096],
-    lists: &[u32; 4097],
-    fronts: &[u32; 4096],
-    space: &[u8; 655360],
-) -> u64
-    requires tables { Tables t.now }
-    requires ordered { Ordered log.now }
-    requires starts { Starts (entries log.now) n starts.now }
-    requires lasts { Lasts log.now (end_of log.now) n lasts.now }
-    requires lists { Lists (entries log.now) n lists.now }
-    requires listed { Listed log.now n fronts.now space.now }
-    requires touched { Touched log.now pages.old 0 n }
-    requires fitting { Fitting log.now pages.old 0 n }
-    requires n_bound { (n ≤ 4096) × (length log.now ≤ 16777216) × (length pages.old ≡ n * page_bytes) }
-    ensures pages_after { pages.new ≡ mended_from (entries log.now) pages.old n 0 }
-    ensures value { result ≡ touched_from (entries log.now) n 0 }
+// Mends all pages and says how many it rewrote.
+pub fn mend_all(t: &Tables, changes: &Changes, pages: &mut [u8]) -> u64
+    requires lasts { Lasts changes.now.log.now (end_of changes.now.log.now) changes.now.n changes.now.scratch.now.lasts }
+    requires touched { Touched changes.now.log.now pages.old 0 changes.now.n }
+    requires fitting { Fitting changes.now.log.now pages.old 0 changes.now.n }
+    requires n_value { length pages.old ≡ changes.now.n * page_bytes }
+    ensures pages_after { pages.new ≡ mended_from (entries changes.now.log.now) pages.old changes.now.n 0 }
+    ensures value { result ≡ touched_from (entries changes.now.log.now) changes.now.n 0 }
 {
     let mut cells = [0u32; 4080];
-    let mut i: usize = 0;
     let mut rewritten: u64 = 0;
-    while i < n {
-        rewritten = rewritten
-            + mend_page(
-                t, log, pages, n, starts, lasts, lists, fronts, space, i, &mut cells,
-            );
-        i += 1;
+    for i in 0..changes.n {
+        rewritten += mend_page(t, changes, pages, i, &mut cells);
     }
     rewritten
 }

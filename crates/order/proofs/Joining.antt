@@ -7,17 +7,22 @@ use mathlib.Core.List.{List, []}
 use native.Mathlib.Omega.{arith}
 use native.Mathlib.Decide.{dec_lt}
 use lib.Dec.{ltb}
-use borrow.Author.Tests.{ne_eqb}
 use Rattle.endian.specs.Pick.{pick}
 use Rattle.endian.specs.declared.Lsn.{Lsn}
-use Rattle.refusals.specs.Verdict.{verdict, accepted, ◌then◌}
+use Rattle.std.specs.Prelude.{Result, Ok, Err}
+use Rattle.refusals.specs.Refusal.{number_of}
+use Rattle.refusals.specs.Verdict.{verdict, accepted, told, told_by, ◌then◌}
+use Rattle.refusals.specs.declared.Refusal.TheVariants.{TransactionOrder}
+use Rattle.refusals.specs.declared.Refused.{Refused}
+use Rattle.refusals.proofs.Then.{then-refused}
+use Rattle.refusals.proofs.Told.{some-number}
 use Rattle.refusals.specs.declared.Verdict.{Verdict}
 use Rattle.wal.specs.Entry.{Entry}
 use Rattle.wal.specs.Walk.{entries, end_of, ending_of}
-use Rattle.wal.specs.Prefix.{Met, before}
+use Rattle.wal.specs.Prefix.{Met}
 use Rattle.wal.specs.declared.Reading.{Reading}
 use Rattle.wal.specs.declared.Reading.TheVariants.{Whole, End, Torn, Unused, Damage}
-use Rattle.wal.proofs.Prefix.{met-below, stands_at, before-end}
+use Rattle.wal.proofs.Prefix.{met-below, stands_at}
 use Rattle.rules.specs.Shape.{both, is_known, is_shaped}
 use Rattle.rules.specs.Order.{count, is_begin, last_lsn, in_order, end_verdict}
 use Rattle.rules.proofs.Tests.{false-true, into, past}
@@ -26,10 +31,9 @@ use Rattle.firsts.specs.Judge.{verdict_from, Judged, stop_for, narrowed, Breaks,
 use Rattle.firsts.proofs.Judging.{Least, judged-from, judged-one, stop-accepted, stop-at, stop-with, narrowed-found, narrowed_none}
 use Rattle.firsts.proofs.OrderVerdict.{plain-judged, order-next}
 use Rattle.firsts.proofs.Log.{end_is, log-some}
-use Rattle.order.specs.First.{told, end_number, basic_fault, basic_verdict, FirstWalk}
-use Rattle.order.specs.Scanning.{plain_verdict, Halts, whole, early, late, Scanned, Joined, wrong, others}
+use Rattle.order.specs.First.{stop_of, basic_fault, basic_verdict, FirstWalk}
+use Rattle.order.specs.Scanning.{ended, plain_verdict, Halts, whole, early, late, Scanned}
 use Rattle.order.specs.Blocks.{FirstWrong, every_number}
-use Rattle.order.specs.declared.Scan.{Scan}
 use Rattle.order.specs.declared.Walked.{Walked}
 use Rattle.order.proofs.Wrongs.{wrong-order}
 
@@ -113,89 +117,98 @@ module _ (full : ℕ → Bool) where
       judged-one own (Only full but_clash) (λ m n xs e a b q. q) (basic-judged (entries s) 32)
       (order-next full (subst (Judged own (Only full but_order) (entries s) 32) z (plain-judged full (entries s) 32)) (omega (arith, end_is s)) f)
 
-  told-end : (r : Reading) (at : ℕ) → told (end_number r) at ≡ end_verdict r at
-  told-end (Whole v) at = refl
-  told-end End at = refl
-  told-end Torn at = refl
-  told-end Unused at = refl
-  told-end Damage at = refl
+  -- what a walk ends with tells the end's verdict
+  told-end : (r : Reading) (at : ℕ) (last : Lsn) → told (ended r at last) ≡ end_verdict r at
+  told-end (Whole v) at last = refl
+  told-end End at last = refl
+  told-end Torn at last = refl
+  told-end Unused at last = refl
+  told-end Damage at last = refl
 
   -- ---- the two searches joined
 
-  module _ (s : List ℕ) {n at stop r : ℕ} where
+  abbrev wrongs_in : List ℕ → ℕ → ℕ → Type 0
+  wrongs_in s x q = FirstOf (λ xs e. in_order xs e ≡ false) (entries s) 32 x q
+
+  abbrev ending_in : List ℕ → Verdict → Verdict
+  ending_in s v = v then end_verdict (ending_of s) (end_of s)
+
+  module _ (s : List ℕ) {w : Result Walked Refused} {stop r : ℕ} where
     -- rule 8 is broken first
-    join-wrong : Met s at → Halts full s n at stop → FirstOf (λ xs e. in_order xs e ≡ false) (entries s) 32 stop r → r < stop → verdict 8 r ≡ basic_verdict full s
+    join-wrong : Met s (stop_of w) → Halts full s w stop → wrongs_in s stop r → r < stop → verdict 8 r ≡ basic_verdict full s
     unfolding basic_verdict
-    join-wrong m (whole z e p q) f l =
-        let st : stop_for own (end_of s) 8 accepted ≡ stop = stop-accepted own (end_of s) 8 accepted refl ∙ sym e ∙ sym p in
-        let b = basic-next s z (subst (λ (x : ℕ). FirstOf (λ xs e. in_order xs e ≡ false) (entries s) 32 x r) (sym st) f) ∙ narrowed-found own (end_of s) 8 r accepted (omega (arith, st)) in
-        sym (ap (λ (x : Verdict). x then end_verdict (ending_of s) (end_of s)) b)
-    join-wrong m (early z b u p) f l =
-        let st : stop_for own (end_of s) 8 (verdict n at) ≡ stop = stop-at own (end_of s) 8 (verdict n at) b (omega arith) ∙ sym p in
-        let k = basic-next s z (subst (λ (x : ℕ). FirstOf (λ xs e. in_order xs e ≡ false) (entries s) 32 x r) (sym st) f) ∙ narrowed-found own (end_of s) 8 r (verdict n at) (omega (arith, st)) in
-        sym (ap (λ (x : Verdict). x then end_verdict (ending_of s) (end_of s)) k)
-    join-wrong m (late z b h p) f l =
-        let st : stop_for own (end_of s) 8 (verdict n at) ≡ suc at = stop-with own (end_of s) 8 (verdict n at) (λ e. omega arith) (omega arith) in
-        let here = log-some s f l in
-        let low : r ≤ at = reach (dec_lt at r) here.met in
-        let g : FirstOf (λ xs e. in_order xs e ≡ false) (entries s) 32 (suc at) r = record { low = omega arith; none = f.none; some = λ k. f.some l } in
-        let k = basic-next s z (subst (λ (x : ℕ). FirstOf (λ xs e. in_order xs e ≡ false) (entries s) 32 x r) (sym st) g) ∙ narrowed-found own (end_of s) 8 r (verdict n at) (omega (arith, st)) in
-        sym (ap (λ (x : Verdict). x then end_verdict (ending_of s) (end_of s)) k)
+    join-wrong m (whole last z p q a) f l =
+        let st : stop_for own (end_of s) 8 accepted ≡ stop = stop-accepted own (end_of s) 8 accepted refl ∙ sym p in
+        let b = basic-next s z (subst (λ (x : ℕ). wrongs_in s x r) (sym st) f) ∙ narrowed-found own (end_of s) 8 r accepted (omega (arith, st)) in
+        sym (ap (ending_in s) b)
+    join-wrong m (early e q z u p) f l =
+        let st : stop_for own (end_of s) 8 (told_by e) ≡ stop = stop-at own (end_of s) 8 (told_by e) (some-number e.refusal) (omega arith) ∙ sym p in
+        let k = basic-next s z (subst (λ (x : ℕ). wrongs_in s x r) (sym st) f) ∙ narrowed-found own (end_of s) 8 r (told_by e) (omega (arith, st)) in
+        sym (ap (ending_in s) k)
+    join-wrong m (late e q z h b p) f l =
+        let n : number_of e.refusal ≡ 10 = ap number_of h in
+        let here : Met s e.place = subst (λ (x : Result Walked Refused). Met s (stop_of x)) q m in
+        let st : stop_for own (end_of s) 8 (told_by e) ≡ suc e.place = stop-with own (end_of s) 8 (told_by e) (some-number e.refusal) (omega arith) in
+        let low : r ≤ e.place = reach here (dec_lt e.place r) (log-some s f l).met in
+        let g : wrongs_in s (suc e.place) r = record { low = omega arith; none = f.none; some = λ k. f.some l } in
+        let k = basic-next s z (subst (λ (x : ℕ). wrongs_in s x r) (sym st) g) ∙ narrowed-found own (end_of s) 8 r (told_by e) (omega (arith, st)) in
+        sym (ap (ending_in s) k)
       where
-        reach : Dec (at < r) → Met s r → r ≤ at
-        reach (yes a) x = absurd (omega (arith, (met-below s m x a).next))
-        reach (no a) x = omega arith
+        reach : Met s e.place → Dec (e.place < r) → Met s r → r ≤ e.place
+        reach y (yes a) x = absurd (omega (arith, (met-below s y x a).next))
+        reach y (no a) x = omega arith
 
     -- no entry up to there breaks it
-    join-others : Halts full s n at stop → FirstOf (λ xs e. in_order xs e ≡ false) (entries s) 32 stop r → stop ≤ r → told n at ≡ basic_verdict full s
+    join-others : Halts full s w stop → wrongs_in s stop r → stop ≤ r → told w ≡ basic_verdict full s
     unfolding basic_verdict
-    join-others (whole z e p q) f l =
-        let st : stop_for own (end_of s) 8 accepted ≡ stop = stop-accepted own (end_of s) 8 accepted refl ∙ sym e ∙ sym p in
-        let b = basic-next s z (subst (λ (x : ℕ). FirstOf (λ xs e. in_order xs e ≡ false) (entries s) 32 x r) (sym st) f) ∙ narrowed_none own (end_of s) 8 r accepted (omega (arith, st)) in
-        ap₂ told q e ∙ told-end (ending_of s) (end_of s) ∙ sym (ap (λ (x : Verdict). x then end_verdict (ending_of s) (end_of s)) b)
-    join-others (early z b u p) f l =
-        let st : stop_for own (end_of s) 8 (verdict n at) ≡ stop = stop-at own (end_of s) 8 (verdict n at) b (omega arith) ∙ sym p in
-        let k = basic-next s z (subst (λ (x : ℕ). FirstOf (λ xs e. in_order xs e ≡ false) (entries s) 32 x r) (sym st) f) ∙ narrowed_none own (end_of s) 8 r (verdict n at) (omega (arith, st)) in
-        refused b ∙ sym (ap (λ (x : Verdict). x then end_verdict (ending_of s) (end_of s)) k ∙ kept b)
-      where
-        refused : (n ≡ 0 → ⊥) → told n at ≡ verdict n at
-        refused x = rw (ne_eqb n 0 x)
+    join-others (whole last z p q a) f l =
+        let st : stop_for own (end_of s) 8 accepted ≡ stop = stop-accepted own (end_of s) 8 accepted refl ∙ sym p in
+        let b = basic-next s z (subst (λ (x : ℕ). wrongs_in s x r) (sym st) f) ∙ narrowed_none own (end_of s) 8 r accepted (omega (arith, st)) in
+        ap told q ∙ told-end (ending_of s) stop last ∙ ap (end_verdict (ending_of s)) p ∙ sym (ap (ending_in s) b)
+    join-others (early e q z u p) f l =
+        let st : stop_for own (end_of s) 8 (told_by e) ≡ stop = stop-at own (end_of s) 8 (told_by e) (some-number e.refusal) (omega arith) ∙ sym p in
+        let k = basic-next s z (subst (λ (x : ℕ). wrongs_in s x r) (sym st) f) ∙ narrowed_none own (end_of s) 8 r (told_by e) (omega (arith, st)) in
+        ap told q ∙ sym (ap (ending_in s) k ∙ then-refused (told_by e) (end_verdict (ending_of s) (end_of s)) (some-number e.refusal))
+    join-others (late e q z h b p) f l =
+        let n : number_of e.refusal ≡ 10 = ap number_of h in
+        let st : stop_for own (end_of s) 8 (told_by e) ≡ suc e.place = stop-with own (end_of s) 8 (told_by e) (some-number e.refusal) (omega arith) in
+        let w = stands_at b in
+        let g : wrongs_in s (suc e.place) (suc e.place) = record { low = omega arith; none = λ xs d ys q k. f.none xs d ys q (omega (arith, w.front, w.low)); some = λ k. absurd (omega arith) } in
+        let k = basic-next s z (subst (λ (y : ℕ). wrongs_in s y (suc e.place)) (sym st) g) ∙ narrowed_none own (end_of s) 8 (suc e.place) (told_by e) (omega (arith, st)) in
+        ap told q ∙ sym (ap (ending_in s) k ∙ then-refused (told_by e) (end_verdict (ending_of s) (end_of s)) (some-number e.refusal))
 
-        kept : (n ≡ 0 → ⊥) → (verdict n at then end_verdict (ending_of s) (end_of s)) ≡ verdict n at
-        kept x = rw (ne_eqb n 0 x)
-    join-others (late z b h p) f l =
-        let x : n ≡ 0 → ⊥ = λ e. omega arith in
-        let st : stop_for own (end_of s) 8 (verdict n at) ≡ suc at = stop-with own (end_of s) 8 (verdict n at) x (omega arith) in
-        let w = stands_at h in
-        let g : FirstOf (λ xs e. in_order xs e ≡ false) (entries s) 32 (suc at) (suc at) = record { low = omega arith; none = λ xs e ys q k. f.none xs e ys q (omega (arith, w.front, w.low)); some = λ k. absurd (omega arith) } in
-        let k = basic-next s z (subst (λ (y : ℕ). FirstOf (λ xs e. in_order xs e ≡ false) (entries s) 32 y (suc at)) (sym st) g) ∙ narrowed_none own (end_of s) 8 (suc at) (verdict n at) (omega (arith, st)) in
-        rw (ne_eqb n 0 x) (sym (ap (λ (y : Verdict). y then end_verdict (ending_of s) (end_of s)) k ∙ rw (ne_eqb n 0 x)))
-
-  -- number 0 is given at the end only
-  ends-whole : (s : List ℕ) {n at stop : ℕ} → Halts full s n at stop → n ≡ 0 → at ≡ end_of s
-  ends-whole s (whole z e p q) x = e
-  ends-whole s (early z b u p) x = absurd (b x)
-  ends-whole s (late z b h p) x = absurd (omega arith)
-
-  -- the first walk's answer
-  pub walked : (s : List ℕ) (c : Scan) (r : ℕ) {w : Walked} → Scanned full s c.number c.place c.stop c.seen → FirstWrong s every_number c.stop r → Joined c r w → FirstWalk full s w
-  walked s c r {w} k f (wrong l a b) =
-      record {
-        met = subst (Met s) (sym b) f.met;
-        tells = ap₂ told a b ∙ join-wrong s k.met k.halts (wrong-order f) l;
-        ends = λ z. absurd (omega arith);
-        last = λ z. absurd (omega arith);
-      }
-  walked s c r {w} k f (others l a b d) =
-      record {
-        met = subst (Met s) (sym b) k.met;
-        tells = ap₂ told a b ∙ join-others s k.halts (wrong-order f) l;
-        ends = λ z. b ∙ end z;
-        last = λ z. ap (λ (x : Lsn). x.0) d ∙ k.sees.last ∙ ap last_lsn (all z);
-      }
+  -- an accepted walk is one to the end
+  to-end : (s : List ℕ) {w : Result Walked Refused} {stop : ℕ} → Halts full s w stop → (x : Walked) → w ≡ Ok x → (x.end ≡ end_of s) × (x.last.0 ≡ last_lsn (entries s))
+  to-end s {w} {stop} (whole last z p q a) x e = go (ending_of s) (sym q ∙ e)
     where
-      end : w.number ≡ 0 → c.place ≡ end_of s
-      end z = ends-whole s k.halts (sym a ∙ z)
+      both_are : (y : Walked) → y.end ≡ stop → y.last ≡ last → y ≡ x → (x.end ≡ end_of s) × (x.last.0 ≡ last_lsn (entries s))
+      both_are y g h f = (ap (λ (u : Walked). u.end) (sym f) ∙ g ∙ p, ap (λ (u : Walked). u.last.0) (sym f) ∙ ap (λ (l : Lsn). l.0) h ∙ a)
 
-      all : w.number ≡ 0 → before s c.place ≡ entries s
-      all z = ap (before s) (end z) ∙ before-end s
+      go : (r : Reading) → ended r stop last ≡ Ok x → (x.end ≡ end_of s) × (x.last.0 ≡ last_lsn (entries s))
+      go (Whole v) f = let g : record { end = stop; last = last } ≡ x = cc in both_are _ refl refl g
+      go End f = let g : record { end = stop; last = last } ≡ x = cc in both_are _ refl refl g
+      go Torn f = let g : record { end = stop; last = last } ≡ x = cc in both_are _ refl refl g
+      go Unused f = let g : record { end = stop; last = last } ≡ x = cc in both_are _ refl refl g
+      go Damage f = absurd (cc)
+  to-end s (early e q z u p) x f = let g : Err e ≡ Ok x = sym q ∙ f in absurd (cc)
+  to-end s (late e q z h b p) x f = let g : Err e ≡ Ok x = sym q ∙ f in absurd (cc)
+
+  -- the first walk's answer: a fault by rule 8 that comes before the others, or theirs
+  module _ (s : List ℕ) {w : Result Walked Refused} {stop r : ℕ} (k : Scanned full s w stop) (f : FirstWrong s every_number stop r) where
+    pub walked-wrong : (e : Refused) → e.refusal ≡ TransactionOrder → e.place ≡ r → r < stop → FirstWalk full s (Err e)
+    walked-wrong e a b l =
+        record {
+          met = subst (Met s) (sym b) f.met;
+          tells = ap₂ verdict (ap number_of a) b ∙ join-wrong s k.met k.halts (wrong-order f) l;
+          ends = λ x z. absurd (cc);
+          last = λ x z. absurd (cc);
+        }
+
+    pub walked-others : stop ≤ r → FirstWalk full s w
+    walked-others l =
+        record {
+          met = k.met;
+          tells = join-others s k.halts (wrong-order f) l;
+          ends = λ x z. (to-end s k.halts x z).0;
+          last = λ x z. (to-end s k.halts x z).1;
+        }

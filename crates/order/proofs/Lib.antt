@@ -1,3 +1,4 @@
+pub mod There
 pub mod Gathering
 pub mod Tellings
 pub mod Wrongs
@@ -5,3 +6,4 @@ pub mod Scans
 pub mod Joining
 pub mod Passing
 pub mod Turnings
+pub mod ByKind

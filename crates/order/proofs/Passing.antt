@@ -7,9 +7,12 @@ use mathlib.Core.List.{List, [], ◌∷◌, ◌++◌}
 use native.Mathlib.Omega.{arith}
 use native.Mathlib.Decide.{dec_lt, ℕ_discrete}
 use lib.Dec.{ltb, eqb}
-use borrow.Author.Tests.{lt-ltb, le-ltb, eq-eqb, ne_eqb, eqb-true, ltb-true}
+use borrow.Author.Tests.{lt-ltb, le-ltb, eqb-true, ltb-true}
 use Rattle.endian.specs.Pick.{pick}
-use Rattle.refusals.specs.Verdict.{verdict, ◌then◌}
+use Rattle.refusals.specs.Verdict.{verdict, told, ◌then◌}
+use Rattle.refusals.specs.declared.Refused.{Refused}
+use Rattle.refusals.proofs.Told.{some-number}
+use Rattle.std.specs.Prelude.{Result, Ok, Err}
 use Rattle.refusals.specs.declared.Verdict.{Verdict}
 use Rattle.refusals.proofs.Then.{then-refused, then-accepted}
 use Rattle.wal.specs.Entry.{Entry, sizes_of, begin}
@@ -29,34 +32,23 @@ use Rattle.firsts.proofs.Judging.{stop-accepted, stop-at, stop-with, narrowed-fo
 use Rattle.firsts.proofs.OrderVerdict.{clash-next}
 use Rattle.firsts.proofs.Outcomes.{InOrder}
 use Rattle.firsts.proofs.Log.{place_is, end_is, split_at}
-use Rattle.order.specs.First.{told, basic_fault, basic_verdict, FirstWalk}
+use Rattle.order.specs.First.{stop_of, basic_fault, basic_verdict, FirstWalk}
 use Rattle.order.specs.declared.Walked.{Walked}
 use Rattle.order.proofs.Joining.{least-basic, basic-judged}
 
--- a number and a place that tell a refusal are its own
-told-refusal : (n at : ℕ) (v : Verdict) → told n at ≡ v → (v.number ≡ 0 → ⊥) → (n ≡ v.number) × (at ≡ v.place)
-told-refusal n at v e b = go (ℕ_discrete n 0)
-  where
-    go : Dec (n ≡ 0) → (n ≡ v.number) × (at ≡ v.place)
-    go (yes z) = let x : (told n at).number ≡ 0 = rw (eq-eqb n 0 z) in absurd (b (sym (ap (λ (u : Verdict). u.number) e) ∙ x))
-    go (no z) =
-        let x : verdict n at ≡ v = rw (ne_eqb n 0 z) at e in
-        (ap (λ (u : Verdict). u.number) x, ap (λ (u : Verdict). u.place) x)
+-- what is refused is refused where the walk stops
+told-refusal : (r : Result Walked Refused) (v : Verdict) → told r ≡ v → (v.number ≡ 0 → ⊥) → stop_of r ≡ v.place
+told-refusal (Ok w) v e b = absurd (b (sym (ap (λ (u : Verdict). u.number) e)))
+told-refusal (Err x) v e b = ap (λ (u : Verdict). u.place) e
 
 -- the end's verdict is told at the end
-told-ending : (r : Reading) (n at end : ℕ) → told n at ≡ end_verdict r end → (n ≡ 0 → at ≡ end) → at ≡ end
-told-ending r n at end e f = go (ℕ_discrete n 0)
-  where
-    damage : (r : Reading) → verdict n at ≡ end_verdict r end → (n ≡ 0 → ⊥) → at ≡ end
-    damage (Whole v) x b = absurd (b (ap (λ (u : Verdict). u.number) x))
-    damage End x b = absurd (b (ap (λ (u : Verdict). u.number) x))
-    damage Torn x b = absurd (b (ap (λ (u : Verdict). u.number) x))
-    damage Unused x b = absurd (b (ap (λ (u : Verdict). u.number) x))
-    damage Damage x b = ap (λ (u : Verdict). u.place) x
-
-    go : Dec (n ≡ 0) → at ≡ end
-    go (yes z) = f z
-    go (no z) = damage r (rw (ne_eqb n 0 z) at e) z
+told-ending : (x : Reading) (r : Result Walked Refused) (end : ℕ) → told r ≡ end_verdict x end → ((w : Walked) → r ≡ Ok w → w.end ≡ end) → stop_of r ≡ end
+told-ending x (Ok w) end e f = f w refl
+told-ending (Whole v) (Err y) end e f = absurd (some-number y.refusal (ap (λ (u : Verdict). u.number) e))
+told-ending End (Err y) end e f = absurd (some-number y.refusal (ap (λ (u : Verdict). u.number) e))
+told-ending Torn (Err y) end e f = absurd (some-number y.refusal (ap (λ (u : Verdict). u.number) e))
+told-ending Unused (Err y) end e f = absurd (some-number y.refusal (ap (λ (u : Verdict). u.number) e))
+told-ending Damage (Err y) end e f = ap (λ (u : Verdict). u.place) e
 
 -- only a change clashes, and a Begin is none
 clash-change : (xs : List Entry) (e f : Entry) → clashes xs e f ≡ true → is_change e ≡ true
@@ -84,57 +76,57 @@ record-less full n (unordered h) m = absurd (omega arith)
 record-less full n (clashing h) m = absurd (omega arith)
 record-less full {us} {d} n (unrecorded h) m = (both_true (is_begin d) (full (count is_begin us)) h).0
 
-module _ {full : ℕ → Bool} {s : List ℕ} {w : Walked} (k : FirstWalk full s w) where
+module _ {full : ℕ → Bool} {s : List ℕ} {w : Result Walked Refused} (k : FirstWalk full s w) where
   abbrev v : Verdict
   v = verdict_from (basic_fault full) [] (entries s) 32
 
   judged : Judged own (Only full but_clash) (entries s) 32 v
   judged = basic-judged full (entries s) 32
 
-  tells : told w.number w.place ≡ (v then end_verdict (ending_of s) (end_of s))
+  tells : told w ≡ (v then end_verdict (ending_of s) (end_of s))
   unfolding basic_verdict
   tells = k.tells
 
-  refused : (v.number ≡ 0 → ⊥) → (w.number ≡ v.number) × (w.place ≡ v.place)
-  refused b = told-refusal w.number w.place v (tells ∙ then-refused v (end_verdict (ending_of s) (end_of s)) b) b
+  refused : (v.number ≡ 0 → ⊥) → stop_of w ≡ v.place
+  refused b = told-refusal w v (tells ∙ then-refused v (end_verdict (ending_of s) (end_of s)) b) b
 
-  at-end : v.number ≡ 0 → w.place ≡ end_of s
-  at-end z = told-ending (ending_of s) w.number w.place (end_of s) (tells ∙ then-accepted v (end_verdict (ending_of s) (end_of s)) z) k.ends
+  at-end : v.number ≡ 0 → stop_of w ≡ end_of s
+  at-end z = told-ending (ending_of s) w (end_of s) (tells ∙ then-accepted v (end_verdict (ending_of s) (end_of s)) z) k.ends
 
   -- ---- no fault before the place
 
-  pub no-fault : (xs : List Entry) (e : Entry) (ys : List Entry) → entries s ≡ xs ++ (e ∷ ys) → 32 + sizes_of xs < w.place → basic_fault full xs e ≡ 0
+  pub no-fault : (xs : List Entry) (e : Entry) (ys : List Entry) → entries s ≡ xs ++ (e ∷ ys) → 32 + sizes_of xs < stop_of w → basic_fault full xs e ≡ 0
   no-fault xs e ys q l = go (basic_fault full xs e) refl (ℕ_discrete v.number 0)
     where
       go : (n : ℕ) → basic_fault full xs e ≡ n → Dec (v.number ≡ 0) → n ≡ 0
       go zero h d = refl
       go (suc n) h (yes z) = absurd (judged.none z (suc n) xs e ys q ((least-basic full).here xs e n h))
-      go (suc n) h (no z) = absurd (judged.early z (suc n) xs e ys q (omega (arith, (refused z).1)) ((least-basic full).here xs e n h))
+      go (suc n) h (no z) = absurd (judged.early z (suc n) xs e ys q (omega (arith, refused z)) ((least-basic full).here xs e n h))
 
-  pub no-fault-at : {p : ℕ} → Met s p → Stands s p → p < w.place → basic_fault full (before s p) (said s p) ≡ 0
+  pub no-fault-at : {p : ℕ} → Met s p → Stands s p → p < stop_of w → basic_fault full (before s p) (said s p) ≡ 0
   no-fault-at {p} m h l = no-fault (before s p) (said s p) (onward s (p + length_at s p)) (split_at s m h) (omega (arith, place_is s m))
 
   -- ---- with clashes
 
-  pub with-clashes : {r : ℕ} → FirstOf (λ xs e. any (clashes xs e) xs ≡ true) (entries s) 32 w.place r
-      → (order_from full [] (entries s) 32 then end_verdict (ending_of s) (end_of s)) ≡ pick (ltb r w.place) (verdict 9 r) (told w.number w.place)
-  with-clashes {r} f = go (ℕ_discrete v.number 0) (dec_lt 9 v.number) (dec_lt r w.place)
+  pub with-clashes : {r : ℕ} → FirstOf (λ xs e. any (clashes xs e) xs ≡ true) (entries s) 32 (stop_of w) r
+      → (order_from full [] (entries s) 32 then end_verdict (ending_of s) (end_of s)) ≡ pick (ltb r (stop_of w)) (verdict 9 r) (told w)
+  with-clashes {r} f = go (ℕ_discrete v.number 0) (dec_lt 9 v.number) (dec_lt r (stop_of w))
     where
       all : (q : ℕ) → FirstOf (λ xs e. any (clashes xs e) xs ≡ true) (entries s) 32 (stop_for own (end_of s) 9 v) q → order_from full [] (entries s) 32 ≡ narrowed own (end_of s) 9 q v
       all q g = clash-next full judged (omega (arith, end_is s)) g
 
       -- a clash before the place
-      found : order_from full [] (entries s) 32 ≡ verdict 9 r → r < w.place → (order_from full [] (entries s) 32 then end_verdict (ending_of s) (end_of s)) ≡ pick (ltb r w.place) (verdict 9 r) (told w.number w.place)
-      found e l = rw (e, lt-ltb r w.place l)
+      found : order_from full [] (entries s) 32 ≡ verdict 9 r → r < stop_of w → (order_from full [] (entries s) 32 then end_verdict (ending_of s) (end_of s)) ≡ pick (ltb r (stop_of w)) (verdict 9 r) (told w)
+      found e l = rw (e, lt-ltb r (stop_of w) l)
 
-      none : order_from full [] (entries s) 32 ≡ v → w.place ≤ r → (order_from full [] (entries s) 32 then end_verdict (ending_of s) (end_of s)) ≡ pick (ltb r w.place) (verdict 9 r) (told w.number w.place)
-      none e l = rw (e, le-ltb r w.place l) (sym tells)
+      none : order_from full [] (entries s) 32 ≡ v → stop_of w ≤ r → (order_from full [] (entries s) 32 then end_verdict (ending_of s) (end_of s)) ≡ pick (ltb r (stop_of w)) (verdict 9 r) (told w)
+      none e l = rw (e, le-ltb r (stop_of w) l) (sym tells)
 
-      here : {stop : ℕ} → stop ≡ w.place → FirstOf (λ xs e. any (clashes xs e) xs ≡ true) (entries s) 32 stop r
+      here : {stop : ℕ} → stop ≡ stop_of w → FirstOf (λ xs e. any (clashes xs e) xs ≡ true) (entries s) 32 stop r
       here z = subst (λ (x : ℕ). FirstOf (λ xs e. any (clashes xs e) xs ≡ true) (entries s) 32 x r) (sym z) f
 
       -- the search goes up to the place
-      upto : stop_for own (end_of s) 9 v ≡ w.place → Dec (r < w.place) → (order_from full [] (entries s) 32 then end_verdict (ending_of s) (end_of s)) ≡ pick (ltb r w.place) (verdict 9 r) (told w.number w.place)
+      upto : stop_for own (end_of s) 9 v ≡ stop_of w → Dec (r < stop_of w) → (order_from full [] (entries s) 32 then end_verdict (ending_of s) (end_of s)) ≡ pick (ltb r (stop_of w)) (verdict 9 r) (told w)
       upto z (yes l) = found (all r (here z) ∙ narrowed-found own (end_of s) 9 r v (omega (arith, z))) l
       upto z (no l) = none (all r (here z) ∙ narrowed_none own (end_of s) 9 r v (omega (arith, z))) (omega arith)
 
@@ -146,28 +138,28 @@ module _ {full : ℕ → Bool} {s : List ℕ} {w : Walked} (k : FirstWalk full s
           begin-apart xs e (ap is_begin (sym z.entry) ∙ record-less full v.number t.holds.1 l) xs
 
       -- one more than the place
-      past : (v.number ≡ 0 → ⊥) → 9 < v.number → stop_for own (end_of s) 9 v ≡ suc w.place → Dec (r < w.place) → (order_from full [] (entries s) 32 then end_verdict (ending_of s) (end_of s)) ≡ pick (ltb r w.place) (verdict 9 r) (told w.number w.place)
+      past : (v.number ≡ 0 → ⊥) → 9 < v.number → stop_for own (end_of s) 9 v ≡ suc (stop_of w) → Dec (r < stop_of w) → (order_from full [] (entries s) 32 then end_verdict (ending_of s) (end_of s)) ≡ pick (ltb r (stop_of w)) (verdict 9 r) (told w)
       past b m z (yes l) =
-          let g : FirstOf (λ xs e. any (clashes xs e) xs ≡ true) (entries s) 32 (suc w.place) r = record { low = omega (arith, f.low); none = f.none; some = λ x. f.some l } in
+          let g : FirstOf (λ xs e. any (clashes xs e) xs ≡ true) (entries s) 32 (suc (stop_of w)) r = record { low = omega (arith, f.low); none = f.none; some = λ x. f.some l } in
           found (all r (subst (λ (x : ℕ). FirstOf (λ xs e. any (clashes xs e) xs ≡ true) (entries s) 32 x r) (sym z) g) ∙ narrowed-found own (end_of s) 9 r v (omega (arith, z))) l
       past b m z (no l) =
-          let g : FirstOf (λ xs e. any (clashes xs e) xs ≡ true) (entries s) 32 (suc w.place) (suc w.place) = record { low = omega arith; none = λ xs e ys q x. at-it xs e ys q x (dec_lt (32 + sizes_of xs) w.place); some = λ x. absurd (omega arith) } in
-          none (all (suc w.place) (subst (λ (x : ℕ). FirstOf (λ xs e. any (clashes xs e) xs ≡ true) (entries s) 32 x (suc w.place)) (sym z) g) ∙ narrowed_none own (end_of s) 9 (suc w.place) v (omega (arith, z))) (omega arith)
+          let g : FirstOf (λ xs e. any (clashes xs e) xs ≡ true) (entries s) 32 (suc (stop_of w)) (suc (stop_of w)) = record { low = omega arith; none = λ xs e ys q x. at-it xs e ys q x (dec_lt (32 + sizes_of xs) (stop_of w)); some = λ x. absurd (omega arith) } in
+          none (all (suc (stop_of w)) (subst (λ (x : ℕ). FirstOf (λ xs e. any (clashes xs e) xs ≡ true) (entries s) 32 x (suc (stop_of w))) (sym z) g) ∙ narrowed_none own (end_of s) 9 (suc (stop_of w)) v (omega (arith, z))) (omega arith)
         where
-          at-it : (xs : List Entry) (e : Entry) (ys : List Entry) → entries s ≡ xs ++ (e ∷ ys) → 32 + sizes_of xs < suc w.place → Dec (32 + sizes_of xs < w.place) → any (clashes xs e) xs ≡ true → ⊥
+          at-it : (xs : List Entry) (e : Entry) (ys : List Entry) → entries s ≡ xs ++ (e ∷ ys) → 32 + sizes_of xs < suc (stop_of w) → Dec (32 + sizes_of xs < stop_of w) → any (clashes xs e) xs ≡ true → ⊥
           at-it xs e ys q x (yes y) = f.none xs e ys q (omega (arith, f.low))
-          at-it xs e ys q x (no y) = apart b m xs e ys q (omega (arith, (refused b).1))
+          at-it xs e ys q x (no y) = apart b m xs e ys q (omega (arith, (refused b)))
 
-      go : Dec (v.number ≡ 0) → Dec (9 < v.number) → Dec (r < w.place) → (order_from full [] (entries s) 32 then end_verdict (ending_of s) (end_of s)) ≡ pick (ltb r w.place) (verdict 9 r) (told w.number w.place)
+      go : Dec (v.number ≡ 0) → Dec (9 < v.number) → Dec (r < stop_of w) → (order_from full [] (entries s) 32 then end_verdict (ending_of s) (end_of s)) ≡ pick (ltb r (stop_of w)) (verdict 9 r) (told w)
       go (yes z) x d = upto (stop-accepted own (end_of s) 9 v z ∙ sym (at-end z)) d
-      go (no b) (no x) d = upto (stop-at own (end_of s) 9 v b (omega arith) ∙ sym (refused b).1) d
-      go (no b) (yes x) d = past b x (stop-with own (end_of s) 9 v b x ∙ ap suc (sym (refused b).1)) d
+      go (no b) (no x) d = upto (stop-at own (end_of s) 9 v b (omega arith) ∙ sym (refused b)) d
+      go (no b) (yes x) d = past b x (stop-with own (end_of s) 9 v b x ∙ ap suc (sym (refused b))) d
 
 -- ---- an accepted log
 
-module _ {full : ℕ → Bool} {s : List ℕ} {w : Walked} (k : FirstWalk full s w) (z : w.number ≡ 0) where
+module _ {full : ℕ → Bool} {s : List ℕ} {w : Walked} (k : FirstWalk full s (Ok w)) where
   none_at_all : (xs : List Entry) (e : Entry) (ys : List Entry) → entries s ≡ xs ++ (e ∷ ys) → basic_fault full xs e ≡ 0
-  none_at_all xs e ys q = no-fault k xs e ys q (omega (arith, k.ends z, end_is s, stands-before xs e ys q))
+  none_at_all xs e ys q = no-fault k xs e ys q (omega (arith, k.ends w refl, end_is s, stands-before xs e ys q))
     where
       stands-before : (xs : List Entry) (e : Entry) (ys : List Entry) → entries s ≡ xs ++ (e ∷ ys) → sizes_of xs < sizes_of (entries s)
       stands-before xs e ys q = rw (q, sizes-append xs (e ∷ ys)) (omega arith)

@@ -7,28 +7,34 @@ use mathlib.Core.List.{List, [], ◌∷◌, ◌++◌}
 use native.Mathlib.Omega.{arith}
 use lib.Dec.{ltb, eqb}
 use borrow.Author.Tests.{lt-ltb, le-ltb}
-use denote.Enum.Declared.{tag_of}
-use types.Run.{OneOf}
+use Rattle.std.specs.Prelude.{Err}
+use Rattle.refusals.specs.Refusal.{number_of}
+use Rattle.refusals.specs.Verdict.{verdict, told_by}
+use Rattle.refusals.specs.declared.Refusal.{Refusal}
+use Rattle.refusals.specs.declared.Refusal.TheVariants.{NoRecord}
+use Rattle.refusals.specs.declared.Refused.{Refused}
+use Rattle.refusals.proofs.Told.{some-number}
 use Rattle.endian.specs.Pick.{pick}
+use Rattle.endian.specs.declared.Lsn.{Lsn}
 use Rattle.wal.specs.Entry.{Entry, entry_of, begin}
 use Rattle.wal.specs.Read.{length_at, read_at, view}
 use Rattle.wal.specs.Walk.{views_from, end_of}
 use Rattle.wal.specs.Prefix.{entry_in, said, Met, Stands, before, onward}
 use Rattle.wal.specs.declared.EntryView.{EntryView}
 use Rattle.wal.specs.declared.Reading.{Reading}
-use Rattle.wal.specs.declared.Reading.TheVariants.{Whole}
-use Rattle.wal.specs.contracts.Reading.{the_type}
+use Rattle.wal.specs.declared.Reading.TheVariants.{Whole, End, Torn, Unused, Damage}
 use Rattle.wal.proofs.WalkLaws.{EntryAt, entry_at, stops}
 use Rattle.wal.proofs.Places.{size-of}
-use Rattle.wal.proofs.Prefix.{entry_in_lem, stands, stands_at, met-first, met_next, before-first, before-next, onward-first, onward-next, met-last}
+use Rattle.wal.proofs.Prefix.{entry_in_lem, stands, stands_at, met-first, met_next, before-first, before-next, onward-first, onward-next, met-last, before-end}
 use Rattle.rules.specs.Shape.{both, is_known, is_shaped}
 use Rattle.rules.specs.Order.{one, count, is_begin, last_lsn, or_else}
 use Rattle.rules.proofs.OrderLaws.{last_snoc}
 use Rattle.rules.proofs.Counts.{count-snoc}
 use Rattle.firsts.specs.Judge.{verdict_from, plain_fault}
-use Rattle.order.specs.First.{end_number}
-use Rattle.order.specs.Scanning.{early_fault, plain_verdict, Scanning, whole, early, late, Scanned}
+use Rattle.order.specs.First.{stop_of}
+use Rattle.order.specs.Scanning.{early_fault, ended, plain_verdict, Scanning, whole, early, late, Scanned}
 use Rattle.order.specs.declared.Seen.{Seen}
+use Rattle.order.proofs.There.{There, there, not-whole}
 
 -- ---- 5, 6 and 7 of an entry
 
@@ -90,6 +96,9 @@ module _ (full : ℕ → Bool) (s : List ℕ) where
     pub read_is : v ≡ entry_in s at
     read_is = entry_in_lem s at q
 
+    pub read-there : There s at v
+    read-there = there read_is read-stands
+
     pub read_length : v.length ≡ length_at s at
     unfolding view
     read_length = ap (λ (u : EntryView). u.length) read_is
@@ -115,11 +124,19 @@ module _ (full : ℕ → Bool) (s : List ℕ) where
     fault-is : {n : ℕ} → n ≡ early_fault w.last.0 (entry_of s v) → early_fault (last_lsn (before s at)) (said s at) ≡ n
     fault-is e = ap₂ (λ (l : ℕ) (u : EntryView). early_fault l (entry_of s u)) (sym k.sees.last) (sym read_is) ∙ sym e
 
-    pub halts-early : (n : ℕ) → n ≡ early_fault w.last.0 (entry_of s v) → (n ≡ 0 → ⊥) → Scanned full s n at at w
-    halts-early zero e b = absurd (b refl)
-    halts-early (suc n) e b =
-        let f = plain-early full (before s at) (said s at) n (fault-is e) in
-        record { met = k.met; met_stop = k.met; halts = early (plain_step ∙ rw f.0) b f.1 refl; sees = k.sees }
+    pub halts-early : (x : Refusal) → number_of x ≡ early_fault w.last.0 (entry_of s v) → (e : Refused) → e.refusal ≡ x → e.place ≡ at → Scanned full s (Err e) at
+    halts-early x e y a b = go (number_of x) refl
+      where
+        go : (n : ℕ) → number_of x ≡ n → Scanned full s (Err y) at
+        go zero z = absurd (some-number x z)
+        go (suc n) z =
+            let f = plain-early full (before s at) (said s at) n (fault-is (sym z ∙ e)) in
+            let d : told_by y ≡ verdict (suc n) at = ap₂ verdict (ap number_of a ∙ z) b in
+            record {
+              met = subst (Met s) (sym b) k.met;
+              met_stop = k.met;
+              halts = early y refl (plain_step ∙ rw f.0 (sym d)) (omega (arith, ap number_of a, z, f.1)) (sym b);
+            }
 
     module _ (e : 0 ≡ early_fault w.last.0 (entry_of s v)) {spent : Bool} (g : spent ≡ both (eqb v.kind begin) (full w.begins)) where
       -- whether there is no record left for it
@@ -128,15 +145,15 @@ module _ (full : ℕ → Bool) (s : List ℕ) where
           plain-late full (before s at) (said s at) (fault-is e)
           ∙ ap (λ (b : Bool). pick {A = ℕ} b 10 0) (ap₂ (λ (x c : ℕ). both (eqb x begin) (full c)) (sym read-kind) (sym k.sees.begins) ∙ sym g)
 
-      pub halts-late : spent ≡ true → (next : ℕ) → next ≡ at + v.length → Scanned full s 10 at next w
-      halts-late z next l =
+      pub halts-late : spent ≡ true → (next : ℕ) → next ≡ at + v.length → (y : Refused) → y.refusal ≡ NoRecord → y.place ≡ at → Scanned full s (Err y) next
+      halts-late z next l y a b =
           let p : next ≡ at + length_at s at = l ∙ ap (λ (x : ℕ). at + x) read_length in
           let f : plain_fault full (before s at) (said s at) ≡ 10 = late_is ∙ ap (λ (b : Bool). pick {A = ℕ} b 10 0) z in
+          let d : told_by y ≡ verdict 10 at = ap₂ verdict (ap number_of a) b in
           record {
-            met = k.met;
+            met = subst (Met s) (sym b) k.met;
             met_stop = subst (Met s) (sym p) (met_next s k.met read-stands);
-            halts = late (plain_step ∙ rw f) refl read-stands p;
-            sees = k.sees;
+            halts = late y refl (plain_step ∙ rw f (sym d)) a (subst (Stands s) (sym b) read-stands) (p ∙ ap (λ (x : ℕ). x + length_at s x) (sym b));
           }
 
       pub scanning-next : spent ≡ false → (next : ℕ) → next ≡ at + v.length → (u : Seen) → u.last.0 ≡ v.lsn.0 → u.begins ≡ w.begins + one (eqb v.kind begin)
@@ -162,15 +179,30 @@ module _ (full : ℕ → Bool) (s : List ℕ) where
           one-le false = omega arith
 
   -- the end of the log
-  pub halts-whole : {at : ℕ} {w : Seen} → Scanning full s at w → (r : Reading) → r ≡ read_at s at → OneOf (1 ∷ 2 ∷ 3 ∷ 4 ∷ []) (tag_of the_type r) → (n : ℕ) → n ≡ end_number r → Scanned full s n at at w
+  pub halts-whole : {at : ℕ} {w : Seen} → Scanning full s at w → (r : Reading) → r ≡ read_at s at → ((v : EntryView) → r ≡ Whole v → ⊥) → Scanned full s (ended r at w.last) at
   unfolding onward verdict_from
-  halts-whole {at} k r q h n e =
-      let none : views_from s at ≡ [] = stops s at r q h in
+  halts-whole {at} {w} k r q h =
+      let none : views_from s at ≡ [] = stops s at r q (not-whole r h) in
       let end : at ≡ end_of s = met-last s k.met none in
       let empty : onward s at ≡ [] = rw none in
       record {
-        met = k.met;
+        met = subst (Met s) (sym (stops-at r)) k.met;
         met_stop = k.met;
-        halts = whole (k.plain ∙ ap (λ (l : List Entry). verdict_from (plain_fault full) (before s at) l at) empty) end refl (e ∙ ap end_number (q ∙ ap (read_at s) end));
-        sees = k.sees;
+        halts = whole w.last (k.plain ∙ ap (λ (l : List Entry). verdict_from (plain_fault full) (before s at) l at) empty) end (ap (λ (x : Reading). ended x at w.last) (q ∙ ap (read_at s) end))
+            (k.sees.last ∙ ap last_lsn (ap (before s) end ∙ before-end s));
       }
+    where
+      stops-at : (r : Reading) → stop_of (ended r at w.last) ≡ at
+      stops-at (Whole v) = refl
+      stops-at End = refl
+      stops-at Torn = refl
+      stops-at Unused = refl
+      stops-at Damage = refl
+
+-- what the walk ends with stops it at its place
+pub stop-ended : (r : Reading) (at : ℕ) (last : Lsn) → stop_of (ended r at last) ≡ at
+stop-ended (Whole v) at last = refl
+stop-ended End at last = refl
+stop-ended Torn at last = refl
+stop-ended Unused at last = refl
+stop-ended Damage at last = refl

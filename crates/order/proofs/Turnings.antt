@@ -9,6 +9,9 @@ use lib.ListN.{length, get_or, set, replicate, length-replicate, length-set}
 use lib.Seq.{get_or-set_same, get_or-set_other}
 use lib.Dec.{eqb}
 use borrow.Author.Tests.{eq-eqb, ne_eqb}
+use Rattle.std.specs.Prelude.{Option, None, Some}
+use Rattle.std.specs.Bool.{then_some}
+use Rattle.endian.specs.declared.TxnNumber.{TxnNumber}
 use Rattle.endian.specs.Pick.{pick}
 use Rattle.wal.specs.Entry.{Entry, begin, commit, rollback, checkpoint}
 use Rattle.wal.specs.Read.{length_at}
@@ -22,7 +25,7 @@ use Rattle.firsts.specs.First.{is_end, is_ending}
 use Rattle.firsts.proofs.FirstLaws.{any_append}
 use Rattle.firsts.proofs.Orders.{ended-any}
 use Rattle.order.specs.Blocks.{top_number, in_block, right_in, FirstWrong, every_number}
-use Rattle.order.specs.Turns.{turns, Turning}
+use Rattle.order.specs.Turns.{turns, Turning, TurningAfter}
 use Rattle.order.proofs.Tellings.{number-said, own-end}
 use Rattle.order.proofs.Wrongs.{right-first, right-next, wrong_start, wrong-none, wrong-last}
 
@@ -254,3 +257,14 @@ module _ {s : List ℕ} {at highest : ℕ} {opens : List ℕ} (w : Turning s at 
 
         old : (q : ℕ) → (get_or (set opens r 0) q 0 ≡ 0 → ⊥) → get_or opens q 0 ≡ 0 → ⊥
         old q y e = y (other q y ∙ e)
+
+-- ---- as code keeps it
+
+pub turned : {s : List ℕ} {at : ℕ} {opens : List ℕ} (b : Bool) (h : TxnNumber) → (b ≡ true → Turning s at h.0 opens) → TurningAfter s at (then_some b h) opens
+turned true h f = f refl
+turned false h f = tt
+
+-- while something is known, no entry is out of order
+pub turned-right : {s : List ℕ} {at : ℕ} (opens : List ℕ) (t : Option TxnNumber) → TurningAfter s at t opens → (h : TxnNumber) → t ≡ Some h → FirstWrong s every_number at at
+turned-right opens None w h e = absurd (cc)
+turned-right opens (Some x) w h e = turning-done w

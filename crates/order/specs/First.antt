@@ -1,15 +1,14 @@
 -- Internal: what the first walk over a log answers: the verdict of all rules but that on clashes.
-use Rattle.std.specs.Prelude.{ℕ, ◌/◌, ◌≡◌, List, [], Bool, ltb, leb, eqb}
-use Rattle.refusals.specs.Refusal.{entry_damaged, entry_type, entry_shape, lsn_order, transaction_order, no_record}
-use Rattle.refusals.specs.Verdict.{verdict, accepted, ◌then◌}
+use Rattle.std.specs.Prelude.{ℕ, ◌/◌, ◌≡◌, List, [], Bool, false, Option, None, Some, Result, Ok, Err, ltb, leb}
+use Rattle.refusals.specs.Refusal.{entry_type, entry_shape, lsn_order, transaction_order, no_record}
+use Rattle.refusals.specs.Verdict.{◌then◌, told}
+use Rattle.refusals.specs.declared.Refused.{Refused}
 use Rattle.refusals.specs.declared.Verdict.{Verdict}
 use Rattle.endian.specs.Pick.{pick}
 use Rattle.wal.specs.Entry.{Entry}
 use Rattle.wal.specs.Read.{first}
 use Rattle.wal.specs.Walk.{entries, end_of, ending_of}
 use Rattle.wal.specs.Prefix.{Met}
-use Rattle.wal.specs.declared.Reading.{Reading}
-use Rattle.wal.specs.declared.Reading.TheVariants.{Whole, End, Torn, Unused, Damage}
 use Rattle.rules.specs.Shape.{both, is_known, is_shaped}
 use Rattle.rules.specs.Order.{count, is_begin, last_lsn, in_order, end_verdict}
 use Rattle.firsts.specs.Judge.{verdict_from}
@@ -20,20 +19,9 @@ abbrev pub reach : ℕ
 reach = 4294967296 / 2
 
 -- with a table, no record is left after so many; without one, there is no bound
-abbrev pub full_of : Bool → ℕ → ℕ → Bool
-full_of bounded records n = both bounded (leb records n)
-
--- the verdict that a number and a place are
-abbrev pub told : ℕ → ℕ → Verdict
-told n at = pick (eqb n 0) accepted (verdict n at)
-
--- refusal 4 where the walk ends in damage
-abbrev pub end_number : Reading → ℕ
-end_number (Whole v) = 0
-end_number End = 0
-end_number Torn = 0
-end_number Unused = 0
-end_number Damage = entry_damaged
+abbrev pub full_of : Option ℕ → ℕ → Bool
+full_of None n = false
+full_of (Some records) n = leb records n
 
 -- refusals 5 to 8 and 10 in turn, or 0
 unfoldable pub basic_fault : (ℕ → Bool) → List Entry → Entry → ℕ
@@ -52,9 +40,14 @@ basic_fault full xs e =
 unfoldable pub basic_verdict : (ℕ → Bool) → List ℕ → Verdict
 basic_verdict full s = verdict_from (basic_fault full) [] (entries s) first then end_verdict (ending_of s) (end_of s)
 
+-- where a walk stops
+abbrev pub stop_of : Result Walked Refused → ℕ
+stop_of (Ok w) = w.end
+stop_of (Err e) = e.place
+
 -- what the first walk tells; of an accepted log also its end and the last LSN
-pub record FirstWalk (full : ℕ → Bool) (s : List ℕ) (w : Walked) : Type 0 where
-  pub met : Met s w.place
-  pub tells : told w.number w.place ≡ basic_verdict full s
-  pub ends : w.number ≡ 0 → w.place ≡ end_of s
-  pub last : w.number ≡ 0 → w.last.0 ≡ last_lsn (entries s)
+pub record FirstWalk (full : ℕ → Bool) (s : List ℕ) (r : Result Walked Refused) : Type 0 where
+  pub met : Met s (stop_of r)
+  pub tells : told r ≡ basic_verdict full s
+  pub ends : (w : Walked) → r ≡ Ok w → w.end ≡ end_of s
+  pub last : (w : Walked) → r ≡ Ok w → w.last.0 ≡ last_lsn (entries s)

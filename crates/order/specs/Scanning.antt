@@ -1,8 +1,13 @@
 -- Internal: the walk with checksums and rules 5, 6, 7 and 10, on its way and where it stops.
-use Rattle.std.specs.Prelude.{ℕ, ◌+◌, ◌≤◌, ◌<◌, ◌≡◌, List, [], Bool, ltb}
-use Rattle.refusals.specs.Refusal.{entry_type, entry_shape, lsn_order, transaction_order, no_record}
-use Rattle.refusals.specs.Verdict.{verdict, accepted}
+use Rattle.std.specs.Prelude.{ℕ, ◌+◌, ◌≤◌, ◌<◌, ◌≡◌, List, [], Bool, Result, Ok, Err, ltb}
+use Rattle.refusals.specs.Refusal.{number_of, entry_type, entry_shape, lsn_order, transaction_order}
+use Rattle.refusals.specs.Verdict.{accepted, told_by}
+use Rattle.refusals.specs.declared.Refusal.TheVariants.{EntryDamaged, NoRecord}
+use Rattle.refusals.specs.declared.Refused.{Refused}
 use Rattle.refusals.specs.declared.Verdict.{Verdict}
+use Rattle.endian.specs.declared.Lsn.{Lsn}
+use Rattle.wal.specs.declared.Reading.{Reading}
+use Rattle.wal.specs.declared.Reading.TheVariants.{Whole, End, Torn, Unused, Damage}
 use Rattle.endian.specs.Pick.{pick}
 use Rattle.wal.specs.Entry.{Entry}
 use Rattle.wal.specs.Read.{first, length_at}
@@ -11,9 +16,8 @@ use Rattle.wal.specs.Prefix.{Met, Stands, before, onward}
 use Rattle.rules.specs.Shape.{is_known, is_shaped}
 use Rattle.rules.specs.Order.{count, is_begin, last_lsn}
 use Rattle.firsts.specs.Judge.{verdict_from, plain_fault}
-use Rattle.order.specs.First.{end_number}
+use Rattle.order.specs.First.{stop_of}
 use Rattle.order.specs.declared.Seen.{Seen}
-use Rattle.order.specs.declared.Scan.{Scan}
 use Rattle.order.specs.declared.Walked.{Walked}
 
 -- refusals 5 to 7 in turn, or 0, by the last LSN
@@ -41,19 +45,21 @@ pub record Scanning (full : ℕ → Bool) (s : List ℕ) (at : ℕ) (w : Seen) :
   pub few : w.begins ≤ at
   pub plain : plain_verdict full s ≡ verdict_from (plain_fault full) (before s at) (onward s at) at
 
--- the walk stops at `at` with number n, and rule 8 is to be tested up to `stop`: with the entry at `at` where that has no record left, since 8 has its turn before 10
-pub data Halts (full : ℕ → Bool) (s : List ℕ) (n at stop : ℕ) : Type 0 where
-  whole : plain_verdict full s ≡ accepted → at ≡ end_of s → stop ≡ at → n ≡ end_number (ending_of s) → Halts full s n at stop
-  early : plain_verdict full s ≡ verdict n at → (n ≡ 0 → ⊥) → n < transaction_order → stop ≡ at → Halts full s n at stop
-  late : plain_verdict full s ≡ verdict n at → n ≡ no_record → Stands s at → stop ≡ at + length_at s at → Halts full s n at stop
+-- what the walk ends with at a place, after an LSN: refusal 4 where it ends in damage
+abbrev pub ended : Reading → ℕ → Lsn → Result Walked Refused
+ended (Whole v) at last = Ok (record { end = at; last = last })
+ended End at last = Ok (record { end = at; last = last })
+ended Torn at last = Ok (record { end = at; last = last })
+ended Unused at last = Ok (record { end = at; last = last })
+ended Damage at last = Err (record { refusal = EntryDamaged; place = at })
 
-pub record Scanned (full : ℕ → Bool) (s : List ℕ) (n at stop : ℕ) (w : Seen) : Type 0 where
-  pub met : Met s at
+-- the walk stops with r, and rule 8 is to be tested up to `stop`: with the entry where that has no record left, since 8 has its turn before 10
+pub data Halts (full : ℕ → Bool) (s : List ℕ) (r : Result Walked Refused) (stop : ℕ) : Type 0 where
+  whole : (last : Lsn) → plain_verdict full s ≡ accepted → stop ≡ end_of s → r ≡ ended (ending_of s) stop last → last.0 ≡ last_lsn (entries s) → Halts full s r stop
+  early : (e : Refused) → r ≡ Err e → plain_verdict full s ≡ told_by e → number_of e.refusal < transaction_order → stop ≡ e.place → Halts full s r stop
+  late : (e : Refused) → r ≡ Err e → plain_verdict full s ≡ told_by e → e.refusal ≡ NoRecord → Stands s e.place → stop ≡ e.place + length_at s e.place → Halts full s r stop
+
+pub record Scanned (full : ℕ → Bool) (s : List ℕ) (r : Result Walked Refused) (stop : ℕ) : Type 0 where
+  pub met : Met s (stop_of r)
   pub met_stop : Met s stop
-  pub halts : Halts full s n at stop
-  pub sees : Sees (before s at) w
-
--- the two searches make the walk's answer: a fault by rule 8 at r that comes before `stop`, or else that of the other rules
-pub data Joined (s : Scan) (r : ℕ) (w : Walked) : Type 0 where
-  wrong : r < s.stop → w.number ≡ transaction_order → w.place ≡ r → Joined s r w
-  others : s.stop ≤ r → w.number ≡ s.number → w.place ≡ s.place → w.last ≡ s.seen.last → Joined s r w
+  pub halts : Halts full s r stop

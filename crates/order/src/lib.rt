@@ -3,18 +3,12 @@
 
 use endian::{Lsn, TxnNumber};
 use index::inner::collect::Held;
+use refusals::Refused;
 
 pub mod inner;
 
-// The types of entries that begin and end a transaction.
-pub const BEGIN: u8 = 1;
-
-pub const COMMIT: u8 = 2;
-
-pub const ROLLBACK: u8 = 3;
-
 // The highest transaction number.
-pub const TOP: u64 = 18446744073709551615;
+pub const TOP: TxnNumber = TxnNumber(18446744073709551615);
 
 // What is collected of Begins, and of endings.
 #[derive(Clone, Copy)]
@@ -40,28 +34,19 @@ pub struct Seen {
     pub begins: u64,
 }
 
-// What a walk knows of the order of transactions: whether every entry so far is known to be in order, and the highest number that began.
-#[derive(Clone, Copy)]
-pub struct Turns {
-    pub sure: bool,
-    pub highest: TxnNumber,
-}
-
-// Where the checksums and rules 5, 6, 7 and 10 stop a walk, the number of the fault there or 0, how far rule 8 is to be tested, and
-// whether no entry before that breaks it.
+// Where the checksums and rules 5, 6, 7 and 10 stop a walk and why, how far rule 8 is to be tested, what was seen before, and, where every entry before that is known to be in order,
+// the highest number that began.
 #[derive(Clone, Copy)]
 pub struct Scan {
-    pub number: u64,
-    pub place: usize,
+    pub found: Result<Walked, Refused>,
     pub stop: usize,
     pub seen: Seen,
-    pub sure: bool,
+    pub turns: Option<TxnNumber>,
 }
 
-// Where the first walk stops, and the number of the fault there or 0; where it is 0, the last LSN.
+// Of a log that is not refused: where it ends, and its last LSN.
 #[derive(Clone, Copy)]
 pub struct Walked {
-    pub number: u64,
-    pub place: usize,
+    pub end: usize,
     pub last: Lsn,
 }

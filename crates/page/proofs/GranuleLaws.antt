@@ -15,7 +15,7 @@ use Rattle.page.specs.Layout.{body_bytes, row_head, slot_off, slot_len}
 use Rattle.page.specs.Good.{Holds}
 use Rattle.page.specs.Fault.{is_tuple, slots_fault}
 use Rattle.page.specs.Granules.{granules, granule_of, Singly, Placed, Lined}
-use Rattle.page.specs.declared.Fault.TheVariants.{Sound}
+use Rattle.std.specs.Prelude.{None}
 use Rattle.page.proofs.SlotLaws.{fine, fine-good, test_fits, apart-share, none-earlier, faulty-not, slots-sound}
 
 -- ---- the slots
@@ -154,6 +154,6 @@ module _ (b : List ℕ) (end n : ℕ) (s : Singly b end n) {grid : List ℕ} (p 
         ]
       ]
 
-  pub granules-sound : slots_fault b end n 0 ≡ Sound
+  pub granules-sound : slots_fault b end n 0 ≡ None
   granules-sound =
       slots-sound b end n 0 (λ k l m. faulty-not b end k (s.at k (omega arith)) (none-earlier b k k (λ j h. apart-share b j k (apart j k h (omega arith)))))

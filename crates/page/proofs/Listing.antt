@@ -10,21 +10,19 @@ use native.Mathlib.Omega.{arith}
 use mathlib.Core.List.{List, [], ◌∷◌, ◌++◌}
 use lib.Dec.{eqb}
 use borrow.Author.Tests.{lt-ltb, le-ltb, le-leb, lt-leb, eq-eqb, ne_eqb}
-use types.Run.{OneOf, miss}
-use denote.Enum.Declared.{tag_of}
 use Rattle.endian.specs.Pick.{pick, cons_if}
 use Rattle.page.specs.Layout.{data_type, page_at, type_of, count_of, slot_at}
-use Rattle.page.specs.Rows.{row, slot_rows, page_rows, rows_from, visible_rows, at_or_after, first_at, next_row, Listable}
+use Rattle.page.specs.Rows.{row, slot_rows, page_rows, rows_from, at_or_after, visible_rows, first_at, next_row, Listable}
 use Rattle.page.specs.Fault.{verdict_of}
 use Rattle.page.specs.declared.Row.{Row}
-use Rattle.page.specs.declared.NextRow.{NextRow}
-use Rattle.page.specs.declared.NextRow.TheVariants.{Refused, At, NoMore}
+use Rattle.std.specs.Prelude.{Option, Some, None, Result, Ok, Err}
+use Rattle.refusals.specs.declared.Refused.{Refused}
+use Rattle.refusals.specs.Verdict.{told_by, told}
+use Rattle.refusals.proofs.Told.{err-answered, ok-answered}
 use Rattle.page.proofs.Verdicts.{accepted-good}
-use Rattle.page.specs.contracts.NextRow.{the_type}
 
--- as a `let .. else` on the answer finds it
-pub not_none : (r : NextRow) → OneOf (0 ∷ 1 ∷ []) (tag_of the_type r) → r ≡ NoMore → ⊥
-not_none r o e = miss (0 ∷ 1 ∷ []) 2 tt (rw e at o)
+some-none : (r : Row) → Some r ≡ None → ⊥
+some-none r e = cc
 
 -- ---- a row's place
 
@@ -57,21 +55,21 @@ module _ (i k m : ℕ) (p : List ℕ) where
 
 -- ---- two lists of rows
 
-none-step : (t : Bool) (r : Row) {x y z : NextRow} → pick t (At r) x ≡ NoMore → (x ≡ NoMore → y ≡ z) → pick t (At r) y ≡ z
+none-step : (t : Bool) (r : Row) {x y z : Option Row} → pick t (Some r) x ≡ None → (x ≡ None → y ≡ z) → pick t (Some r) y ≡ z
 none-step true r e h = cc
 none-step false r e h = h e
 
-some-step : (t : Bool) (r : Row) {x y : NextRow} → (pick t (At r) x ≡ NoMore → ⊥) → ((x ≡ NoMore → ⊥) → y ≡ x) → pick t (At r) y ≡ pick t (At r) x
+some-step : (t : Bool) (r : Row) {x y : Option Row} → (pick t (Some r) x ≡ None → ⊥) → ((x ≡ None → ⊥) → y ≡ x) → pick t (Some r) y ≡ pick t (Some r) x
 some-step true r n h = refl
 some-step false r n h = h n
 
 module _ (i k : ℕ) where
-  none_then : (xs ys : List Row) → first_at i k xs ≡ NoMore → first_at i k (xs ++ ys) ≡ first_at i k ys
+  none_then : (xs ys : List Row) → first_at i k xs ≡ None → first_at i k (xs ++ ys) ≡ first_at i k ys
   unfolding first_at
   none_then [] ys e = refl
   none_then (r ∷ xs) ys e = none-step (at_or_after i k r) r e (none_then xs ys)
 
-  some_then : (xs ys : List Row) → (first_at i k xs ≡ NoMore → ⊥) → first_at i k (xs ++ ys) ≡ first_at i k xs
+  some_then : (xs ys : List Row) → (first_at i k xs ≡ None → ⊥) → first_at i k (xs ++ ys) ≡ first_at i k xs
   unfolding first_at
   some_then [] ys h = absurd (h refl)
   some_then (r ∷ xs) ys h = some-step (at_or_after i k r) r h (some_then xs ys)
@@ -111,16 +109,16 @@ module _ (shows : List ℕ → Bool) (i k : ℕ) (p : List ℕ) where
     pub slot-passed : shows (slot_at p j) ≡ false → first_at i k (slot_rows shows i p (n - j) j) ≡ first_at i k (slot_rows shows i p (n - (j + 1)) (j + 1))
     slot-passed e = rw (one, e)
 
-    pub slot-found : k ≤ j → shows (slot_at p j) ≡ true → first_at i k (slot_rows shows i p (n - j) j) ≡ At (row i j p)
+    pub slot-found : k ≤ j → shows (slot_at p j) ≡ true → first_at i k (slot_rows shows i p (n - j) j) ≡ Some (row i j p)
     unfolding first_at
     slot-found l e = rw (one, e, in-later-slot i k j p l)
 
-  pub slots-done : (n j : ℕ) → n ≤ j → first_at i k (slot_rows shows i p (n - j) j) ≡ NoMore
+  pub slots-done : (n j : ℕ) → n ≤ j → first_at i k (slot_rows shows i p (n - j) j) ≡ None
   unfolding slot_rows first_at
   slots-done n j l = let e : n - j ≡ 0 = omega arith in rw e
 
   -- a page of another type has none
-  pub page-other : (type_of p ≡ data_type → ⊥) → NoMore ≡ first_at i k (page_rows shows i p)
+  pub page-other : (type_of p ≡ data_type → ⊥) → None ≡ first_at i k (page_rows shows i p)
   unfolding page_rows first_at
   page-other h = rw (ne_eqb _ _ h)
 
@@ -132,17 +130,17 @@ module _ (shows : List ℕ → Bool) (i k : ℕ) (p : List ℕ) where
 
 module _ (shows : List ℕ → Bool) (i k : ℕ) where
   -- the pages before i
-  early-slots : (j : ℕ) (p : List ℕ) (n m : ℕ) → j < i → first_at i k (slot_rows shows j p n m) ≡ NoMore
+  early-slots : (j : ℕ) (p : List ℕ) (n m : ℕ) → j < i → first_at i k (slot_rows shows j p n m) ≡ None
   unfolding slot_rows first_at
   early-slots j p zero m l = refl
   early-slots j p (suc n) m l =
       cons-passed i k (shows (slot_at p m)) (row j m p) (slot_rows shows j p n (suc m)) (on-earlier-page i k j m p l) ∙ early-slots j p n (suc m) l
 
-  early-page : (j : ℕ) (p : List ℕ) → j < i → first_at i k (page_rows shows j p) ≡ NoMore
+  early-page : (j : ℕ) (p : List ℕ) → j < i → first_at i k (page_rows shows j p) ≡ None
   unfolding page_rows first_at
   early-page j p l = by-type (eqb (type_of p) data_type)
     where
-      by-type : (t : Bool) → first_at i k (pick t (slot_rows shows j p (count_of p) 0) []) ≡ NoMore
+      by-type : (t : Bool) → first_at i k (pick t (slot_rows shows j p (count_of p) 0) []) ≡ None
       by-type true = early-slots j p (count_of p) 0 l
       by-type false = refl
 
@@ -162,7 +160,7 @@ module _ (shows : List ℕ → Bool) (i k : ℕ) where
         | no l ↦ let e : n - i ≡ 0 = omega arith in rw e (sym (rw (add-zero n) at (skipped-pages s n 0 0 (omega arith))))
       ]
 
-  pub pages-done : (s : List ℕ) (n : ℕ) → n ≤ i → first_at i k (rows_from shows s (n - i) i) ≡ NoMore
+  pub pages-done : (s : List ℕ) (n : ℕ) → n ≤ i → first_at i k (rows_from shows s (n - i) i) ≡ None
   unfolding rows_from first_at
   pages-done s n l = let e : n - i ≡ 0 = omega arith in rw e
 
@@ -199,13 +197,16 @@ module _ (shows : List ℕ → Bool) (i k : ℕ) where
     unfolding rows_from
     one-page = let e : n - i ≡ suc (n - (i + 1)) = omega arith in rw (e, add-one)
 
-    pub page-passed : first_at i k (page_rows shows i (page_at i s)) ≡ NoMore → first_at i k (rows_from shows s (n - i) i) ≡ first_at (i + 1) 0 (rows_from shows s (n - (i + 1)) (i + 1))
+    pub page-passed : first_at i k (page_rows shows i (page_at i s)) ≡ None → first_at i k (rows_from shows s (n - i) i) ≡ first_at (i + 1) 0 (rows_from shows s (n - (i + 1)) (i + 1))
     page-passed e =
         ap (first_at i k) one-page ∙ none_then i k (page_rows shows i (page_at i s)) (rows_from shows s (n - (i + 1)) (i + 1)) e
         ∙ rw (add-one i) (later-pages s (n - suc i) (suc i) (omega arith))
 
-    pub page-found : (first_at i k (page_rows shows i (page_at i s)) ≡ NoMore → ⊥) → first_at i k (rows_from shows s (n - i) i) ≡ first_at i k (page_rows shows i (page_at i s))
+    page-found : (first_at i k (page_rows shows i (page_at i s)) ≡ None → ⊥) → first_at i k (rows_from shows s (n - i) i) ≡ first_at i k (page_rows shows i (page_at i s))
     page-found h = ap (first_at i k) one-page ∙ some_then i k (page_rows shows i (page_at i s)) (rows_from shows s (n - (i + 1)) (i + 1)) h
+
+    pub page-some : (r : Row) → first_at i k (page_rows shows i (page_at i s)) ≡ Some r → first_at i k (rows_from shows s (n - i) i) ≡ Some r
+    page-some r e = page-found (λ q. some-none r (sym e ∙ q)) ∙ e
 
 -- ---- the whole answer
 
@@ -214,10 +215,19 @@ pub listable : (magic : ℕ) (s : List ℕ) → (verdict_of magic s).number ≡ 
 listable magic s e = record { at = λ i l t. (accepted-good magic s 0 e i (omega arith) l).data_good t }
 
 module _ (magic : ℕ) (s : List ℕ) (i k : ℕ) where
-  pub listing-refused : ((verdict_of magic s).number ≡ 0 → ⊥) → Refused (verdict_of magic s) ≡ next_row magic s i k
+  pub listing-refused : ((verdict_of magic s).number ≡ 0 → ⊥) → Err (verdict_of magic s) ≡ next_row magic s i k
   unfolding next_row
   listing-refused h = rw (ne_eqb _ _ h)
 
-  pub listing-taken : (verdict_of magic s).number ≡ 0 → first_at i k (visible_rows s) ≡ next_row magic s i k
+  pub listing-taken : (verdict_of magic s).number ≡ 0 → Ok (first_at i k (visible_rows s)) ≡ next_row magic s i k
   unfolding next_row
   listing-taken e = rw (eq-eqb _ _ e)
+
+module _ (magic : ℕ) (s : List ℕ) (i k : ℕ) {r : Result Unit Refused} (is : told r ≡ verdict_of magic s) where
+  pub listing-err : {e : Refused} → r ≡ Err e → Err (told_by e) ≡ next_row magic s i k
+  unfolding next_row
+  listing-err q = err-answered is q (first_at i k (visible_rows s))
+
+  pub listing-ok : {u : Unit} → r ≡ Ok u → Ok (first_at i k (visible_rows s)) ≡ next_row magic s i k
+  unfolding next_row
+  listing-ok q = ok-answered is q (first_at i k (visible_rows s))

@@ -8,18 +8,22 @@ use native.Mathlib.Omega.{arith}
 use mathlib.Core.List.{List, [], ◌∷◌, ◌++◌}
 use mathlib.Core.Bool.{Bool, true, false}
 use lib.Dec.{ltb, eqb}
-use lib.ListN.{length, take, drop, set, get_or, take-append-drop, length-drop, length-append}
+use lib.ListN.{length, take, drop, set, get_or, take-append-drop}
 use lib.Seq.{drop-cons, set_at, append_snoc, take-add, take_at, drop_at}
 use lib.Count.{ones, ones_step, ones_cat, ones-le}
 use lib.Pow.{pow_mono}
 use borrow.Author.Tests.{lt-ltb, le-ltb, eq-eqb, ne_eqb}
 use Rattle.endian.specs.Pick.{pick}
 use Rattle.endian.specs.Numbers.{number_of, number_at, Bytes}
-use Rattle.endian.proofs.Bytes.{bytes-nil, bytes-cons, bytes_take, bytes_drop, number-range, number-below}
+use Rattle.endian.proofs.Bytes.{bytes-nil, bytes-cons, bytes_take, bytes_drop, number-range}
 use Rattle.page.specs.Layout.{page_bytes, free_type, pages_in, page_at, type_of}
 use Rattle.refusals.specs.Verdict.{verdict}
 use Rattle.page.specs.Fault.{verdict_of}
 use Rattle.refusals.specs.declared.Verdict.{Verdict}
+use Rattle.refusals.specs.declared.Refused.{Refused}
+use Rattle.refusals.specs.Verdict.{told_by, told}
+use Rattle.refusals.proofs.Told.{err-some, err-refused, ok-accepted}
+use Rattle.std.specs.Prelude.{Result, Ok, Err}
 use Rattle.page.specs.FreeMap.{free_bit, bits, map_bytes, ones_of, map_length, free_pages, map_verdict, map_after, free_count}
 use Rattle.page.proofs.Reading.{type_at}
 
@@ -74,10 +78,6 @@ module _ (s : List ℕ) where
   unfolding map_bytes
   length-bytes zero i = refl
   length-bytes (suc n) i = ap suc (length-bytes n (i + 8))
-
-  -- the lent map keeps its length
-  pub length-filled : (d : List ℕ) (n : ℕ) → n ≤ length d → length (map_bytes s n 0 ++ drop n d) ≡ length d
-  length-filled d n l = length-append (map_bytes s n 0) (drop n d) ∙ omega (arith, length-bytes n 0, length-drop n d)
 
   bytes-join : (m n i : ℕ) → map_bytes s (m + n) i ≡ map_bytes s m i ++ map_bytes s n (i + 8 * m)
   unfolding map_bytes
@@ -178,9 +178,6 @@ module _ {s : List ℕ} (b : Bytes s) where
   pub word_small : (i : ℕ) → ones (number_at 8 i s) ≤ 64
   word_small i = ones-le 64 (number_at 8 i s) (number-range 8 i b)
 
-  pub rest-small : (i : ℕ) → length s < i + 8 → ones (number_of (drop i s)) ≤ 64
-  rest-small i l = ones-le 64 (number_of (drop i s)) (number-below 8 (bytes_drop i b) (simp length-drop (omega arith)))
-
   -- and the bytes that are left
   pub ones-last : (i n : ℕ) → n ≡ ones_of (take i s) → n + ones (number_of (drop i s)) ≡ ones_of s
   ones-last i n e =
@@ -188,29 +185,34 @@ module _ {s : List ℕ} (b : Bytes s) where
 
 -- ---- the whole answer
 
--- a verdict, a count and what the map then holds are the right ones
-abbrev pub Mapped : ℕ → List ℕ → List ℕ → Verdict → ℕ → List ℕ → Type 0
-Mapped magic s map v n after = (v ≡ map_verdict magic s map) × ((n ≡ free_count magic s map) × (after ≡ map_after magic s map))
+-- an answer and what the map then holds are the right ones
+abbrev pub Mapped : ℕ → List ℕ → List ℕ → Result ℕ Verdict → List ℕ → Type 0
+Mapped magic s map a after = (a ≡ free_count magic s map) × (after ≡ map_after magic s map)
 
-module _ (magic : ℕ) (s map : List ℕ) (v : Verdict) (verified : v ≡ verdict_of magic s) where
-  pub map-refused : (v.number ≡ 0 → ⊥) → Mapped magic s map v 0 map
-  unfolding map_verdict free_count map_after
-  map-refused h = rw verified (let e = ne_eqb _ _ (rw verified at h) in (rw e, (rw (e, e), rw (e, e))))
+pub map-refused : (magic : ℕ) (s map : List ℕ) → ((verdict_of magic s).number ≡ 0 → ⊥) → Mapped magic s map (Err (verdict_of magic s)) map
+unfolding map_verdict free_count map_after
+map-refused magic s map h = let e = ne_eqb (verdict_of magic s).number 0 h in (rw (e, e), rw (e, e))
 
-  module _ (a : v.number ≡ 0) where
-    pub map-short : length map < map_length s → Mapped magic s map (verdict 16 0) 0 map
+module _ (magic : ℕ) (s map : List ℕ) {r : Result Unit Refused} (verified : told r ≡ verdict_of magic s) where
+  pub map-err : {e : Refused} → r ≡ Err e → Mapped magic s map (Err (told_by e)) map
+  map-err q =
+      let f = map-refused magic s map (err-some verified q) in
+      (ap Err (err-refused verified q) ∙ f.0, f.1)
+
+  module _ {u : Unit} (q : r ≡ Ok u) where
+    pub map-short : length map < map_length s → Mapped magic s map (Err (verdict 16 0)) map
     unfolding map_verdict free_count map_after
     map-short l =
-        let e = eq-eqb _ _ (rw verified at a) in
+        let e = eq-eqb (verdict_of magic s).number 0 (ok-accepted verified q) in
         let g = lt-ltb _ _ l in
-        (rw (e, g), (rw (e, g), rw (e, g)))
+        (rw (e, g), rw (e, g))
 
     -- the count is read off the finished map
     pub map-filled : map_length s ≤ length map
-        → (let after = map_bytes s (map_length s) 0 ++ drop (map_length s) map in Mapped magic s map (verdict 0 0) (ones_of (take (map_length s) after)) after)
+        → (let after = map_bytes s (map_length s) 0 ++ drop (map_length s) map in Mapped magic s map (Ok (ones_of (take (map_length s) after))) after)
     unfolding map_verdict free_count map_after
     map-filled l =
-        let e = eq-eqb _ _ (rw verified at a) in
+        let e = eq-eqb (verdict_of magic s).number 0 (ok-accepted verified q) in
         let g = le-ltb _ _ l in
         let t = take_at (map_bytes s (map_length s) 0) (drop (map_length s) map) (map_length s) (length-bytes s (map_length s) 0) in
-        (rw (e, g), (rw (e, g) (ap ones_of t ∙ map-ones s), rw (e, g)))
+        (rw (e, g) (ap Ok (ap ones_of t ∙ map-ones s)), rw (e, g))

@@ -1,20 +1,17 @@
 -- Pages noted one after another.
 -- Assumes nothing.
 use mathlib.Core.Path.{◌≡◌, sym, ◌∙◌}
-use Prim.Native.Nat.{ℕ, ◌+◌, ◌≤◌, ◌<◌}
+use Prim.Native.Nat.{ℕ, ◌+◌, ◌<◌}
 use native.Mathlib.Decide.{dec_le}
 use native.Mathlib.Omega.{arith}
 use mathlib.Core.List.{List, []}
-use lib.ListN.{length, get_or, set, get_or-eq_default}
+use lib.ListN.{length, get_or, set}
 use lib.Seq.{get_or-set_same, get_or-set_other}
 use Rattle.page.specs.Layout.{page_at}
 use Rattle.page.specs.Rows.{cancelled, page_rows}
 use Rattle.page.specs.Notes.{Noted}
 
 module _ (s : List ℕ) where
-  pub noted-none : (notes : List ℕ) → Noted s notes 0
-  noted-none notes = record { at = λ i l e. absurd (omega arith) }
-
   pub noted_more : (notes : List ℕ) (n v : ℕ) → n < length notes → Noted s notes n → (v ≡ 1 → page_rows cancelled n (page_at n s) ≡ []) → Noted s (set notes n v) (n + 1)
   noted_more notes n v l d h =
       record {
@@ -26,10 +23,3 @@ module _ (s : List ℕ) where
               | no q ↦ d.at i (omega arith) (sym (get_or-set_other notes n i v 0 (λ z. absurd (omega arith))) ∙ e)
             ];
       }
-
-  pub noted-fewer : (notes : List ℕ) (n m : ℕ) → m ≤ n → Noted s notes n → Noted s notes m
-  noted-fewer notes n m l d = record { at = λ i k e. d.at i (omega arith) e }
-
-  -- where there are no notes
-  pub noted_nothing : (n : ℕ) → Noted s [] n
-  noted_nothing n = record { at = λ i l e. absurd (omega (arith, e, get_or-eq_default {A = ℕ} [] 0 {n = i} (omega arith))) }

@@ -4,9 +4,9 @@ use mathlib.Core.Path.{◌≡◌, refl, sym, ap, ◌∙◌}
 use Prim.Native.Nat.{ℕ, ◌+◌, ◌-◌, ◌*◌, ◌≤◌}
 use native.Mathlib.Decide.{dec_le}
 use native.Mathlib.Omega.{arith}
-use mathlib.Core.List.{List, [], ◌++◌, append_assoc, append-nil}
-use lib.ListN.{length, take, drop, length-append, length-take, length-drop, take-append-drop, drop_of_length-le}
-use lib.Seq.{paste, take-length, take_all, take-take, drop-drop, take-add, drop_at, length-take-le}
+use mathlib.Core.List.{List, ◌++◌, append_assoc}
+use lib.ListN.{length, take, drop, length-append, take-append-drop}
+use lib.Seq.{paste, take_all, take-take, drop-drop, take-add, drop_at, length-take-le}
 use Rattle.endian.specs.Numbers.{bytes_of}
 use Rattle.endian.proofs.Numbers.{length-bytes_of}
 use Rattle.endian.proofs.Stores.{first, more, number}
@@ -95,14 +95,6 @@ pub paste-own : (d : List ℕ) (a n : ℕ) → paste d a (take n (drop a d)) n �
 paste-own d a n =
     rw (take-take n n (drop a d) (omega arith), append_assoc (take a d) (take n (drop a d)) (drop (a + n) d), ← drop-drop n a d, take-append-drop n (drop a d))
     (take-append-drop a d)
-
-pub page-stored : (d y w : List ℕ) (a n : ℕ) → n ≡ page_bytes → a + page_bytes ≤ length d → length w ≡ page_bytes → y ≡ paste (take n (drop a d)) 0 w (length w)
-    → take a d ++ (y ++ drop n (drop a d)) ≡ paste d a w page_bytes
-page-stored d y w a n en r l e =
-    let none : drop (0 + length w) (take n (drop a d)) ≡ [] = drop_of_length-le (take n (drop a d)) {i = 0 + length w} (simp (length-take, length-drop) (omega arith)) in
-    let whole : y ≡ w = e ∙ rw (take-length w, none) (append-nil w) in
-    let t : take page_bytes w ≡ w = take_all page_bytes w (omega arith) in
-    rw (whole, en, drop-drop, t) (sym (append_assoc (take a d) w (drop (a + page_bytes) d)))
 
 -- it is that page, and every other is as it was
 module _ (d w : List ℕ) (j : ℕ) (long : length w ≡ page_bytes) (room : j * page_bytes + page_bytes ≤ length d) where

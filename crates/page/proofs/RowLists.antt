@@ -1,27 +1,25 @@
 -- The rows of a listing one after another from a place on, and many of them stored as numbers.
 -- Assumes nothing.
-use mathlib.Core.Path.{◌≡◌, refl, sym, ap, ◌∙◌}
+use mathlib.Core.Path.{◌≡◌, refl, sym, ap, ap₂, ◌∙◌}
 use mathlib.Core.Logic.{◌⊎◌, inl, inr}
 use mathlib.Core.Bool.{Bool, true, false}
 use Prim.Native.Nat.{ℕ, zero, suc, ◌+◌, ◌*◌, ◌/◌, ◌≤◌, ◌<◌}
 use native.Mathlib.Omega.{arith}
 use mathlib.Core.List.{List, [], ◌∷◌, ◌++◌, append_assoc, append-nil}
 use lib.Dec.{ltb, leb, eqb}
-use lib.ListN.{length, take, drop, set, length-append, length-drop, drop_of_length-le}
-use lib.Seq.{paste, sets-eq, take_at, drop_at, take_all, drop-drop}
+use lib.ListN.{length, take, drop, length-append, length-drop, drop_of_length-le}
+use lib.Seq.{paste, take_at, drop_at, take_all, drop-drop}
 use borrow.Author.Tests.{lt-ltb, le-leb, eq-eqb, ne_eqb, ltb-true, leb-true, eqb-true}
-use types.Run.{OneOf, miss}
-use denote.Enum.Declared.{tag_of}
 use Rattle.endian.specs.Pick.{pick, cons_if}
 use Rattle.page.specs.Layout.{data_type, pages_in, page_at, type_of, count_of, slot_at}
-use Rattle.page.specs.Rows.{row, slot_rows, page_rows, rows_from, rows_of, at_or_after, first_at, rows_at, Listable, numbers_of, numbers_per_row, numbers_of_all, listed, list_of, list_after, no_list, row_list, rows_after}
+use Rattle.page.specs.Rows.{row, slot_rows, page_rows, rows_from, rows_of, at_or_after, first_at, rows_at, Listable, numbers_of, numbers_per_row, numbers_of_all, listed, list_of, list_after, row_list, rows_after}
 use Rattle.page.specs.Fault.{verdict_of}
-use Rattle.refusals.specs.declared.Verdict.{Verdict}
+use Rattle.refusals.specs.declared.Refused.{Refused}
+use Rattle.refusals.specs.Verdict.{told_by, told, answered}
+use Rattle.refusals.proofs.Told.{err-some, err-refused, ok-accepted, ok-answered}
 use Rattle.page.specs.declared.Row.{Row}
 use Rattle.page.specs.declared.RowList.{RowList}
-use Rattle.page.specs.declared.NextRow.{NextRow}
-use Rattle.page.specs.declared.NextRow.TheVariants.{Refused, At, NoMore}
-use Rattle.page.specs.contracts.NextRow.{the_type}
+use Rattle.std.specs.Prelude.{Option, Some, None, Result, Ok, Err}
 use Rattle.page.proofs.ListedRows.{Each, Standing, rows-stand}
 
 -- ---- the order of places
@@ -168,66 +166,61 @@ module _ (i k : ℕ) (r : Row) (rest : List Row) where
       go false b f h = f h ∙ sym (past (not_earlier (behind q.page.0 (suc q.slot) rs u.1 h)))
 
 -- the first row, or none
-abbrev pub head_row : List Row → NextRow
-head_row [] = NoMore
-head_row (r ∷ rs) = At r
+abbrev pub head_row : List Row → Option Row
+head_row [] = None
+head_row (r ∷ rs) = Some r
 
 first-is : (i k : ℕ) (rs : List Row) → first_at i k rs ≡ head_row (rows_at i k rs)
 unfolding first_at rows_at
 first-is i k [] = refl
 first-is i k (r ∷ rs) = go (at_or_after i k r) (first-is i k rs)
   where
-    go : (t : Bool) → first_at i k rs ≡ head_row (rows_at i k rs) → pick t (At r) (first_at i k rs) ≡ head_row (cons_if t r (rows_at i k rs))
+    go : (t : Bool) → first_at i k rs ≡ head_row (rows_at i k rs) → pick t (Some r) (first_at i k rs) ≡ head_row (cons_if t r (rows_at i k rs))
     go true e = refl
     go false e = e
 
-abbrev pub row_or : Row → NextRow → Row
-row_or d (Refused v) = d
-row_or d (At r) = r
-row_or d NoMore = d
+abbrev pub row_or : Row → Option Row → Row
+row_or d (Some r) = r
+row_or d None = d
 
-head_at : (l : List Row) (r : Row) → head_row l ≡ At r → l ≡ r ∷ tail_of l
-head_at [] r e = let z : ◌≡◌ {A = ℕ} 0 1 = cc in absurd (omega arith)
+head_at : (l : List Row) (r : Row) → head_row l ≡ Some r → l ≡ r ∷ tail_of l
+head_at [] r e = cc
 head_at (q ∷ l) r e = let z : q ≡ r = ap (row_or r) e in rw z
 
-head-none : (l : List Row) → OneOf (0 ∷ 2 ∷ []) (tag_of the_type (head_row l)) → l ≡ []
-head-none [] o = refl
-head-none (r ∷ l) o = absurd (miss (0 ∷ 2 ∷ []) 1 tt o)
-
-head-empty : (l : List Row) → head_row l ≡ NoMore → l ≡ []
+head-empty : (l : List Row) → head_row l ≡ None → l ≡ []
 head-empty [] e = refl
-head-empty (r ∷ l) e = let z : ◌≡◌ {A = ℕ} 0 1 = cc in absurd (omega arith)
+head-empty (r ∷ l) e = cc
 
 -- a page on which a search meets none has none
-pub page-none : (shows : List ℕ → Bool) (i : ℕ) (p : List ℕ) → first_at i 0 (page_rows shows i p) ≡ NoMore → page_rows shows i p ≡ []
+pub page-none : (shows : List ℕ → Bool) (i : ℕ) (p : List ℕ) → first_at i 0 (page_rows shows i p) ≡ None → page_rows shows i p ≡ []
 page-none shows i p e =
     let u : Rising i 0 (page_rows shows i p) = rw (append-nil (page_rows shows i p)) at (rising-page shows i p [] tt) in
     head-empty (page_rows shows i p) (ap head_row (sym (all-at i 0 (page_rows shows i p) u)) ∙ sym (first-is i 0 (page_rows shows i p)) ∙ e)
 
 module _ (shows : List ℕ → Bool) (s : List ℕ) (i k : ℕ) where
   -- a search meets a row, and goes on behind it
-  pub row_next : (r : Row) → first_at i k (rows_of shows s) ≡ At r → rows_at i k (rows_of shows s) ≡ r ∷ rows_at r.page.0 (r.slot + 1) (rows_of shows s)
+  pub row_next : (r : Row) → first_at i k (rows_of shows s) ≡ Some r → rows_at i k (rows_of shows s) ≡ r ∷ rows_at r.page.0 (r.slot + 1) (rows_of shows s)
   row_next r e =
       let h : rows_at i k (rows_of shows s) ≡ r ∷ tail_of (rows_at i k (rows_of shows s)) = head_at (rows_at i k (rows_of shows s)) r (sym (first-is i k (rows_of shows s)) ∙ e) in
       let z : suc r.slot ≡ r.slot + 1 = omega arith in
       h ∙ ap (λ (x : List Row). r ∷ x) (rw (← z) (goes_on i k r (tail_of (rows_at i k (rows_of shows s))) 0 0 (rows_of shows s) (rising-pages shows s (pages_in s) 0) h))
 
-  -- or meets none, as a `let .. else` finds it
-  pub row-none : (x : NextRow) → x ≡ first_at i k (rows_of shows s) → OneOf (0 ∷ 2 ∷ []) (tag_of the_type x) → rows_at i k (rows_of shows s) ≡ []
-  row-none x e o = head-none (rows_at i k (rows_of shows s)) (rw (e ∙ first-is i k (rows_of shows s)) at o)
+  -- or meets none
+  pub row-none : first_at i k (rows_of shows s) ≡ None → rows_at i k (rows_of shows s) ≡ []
+  row-none e = head-empty (rows_at i k (rows_of shows s)) (sym (first-is i k (rows_of shows s)) ∙ e)
 
 -- ---- a property of all rows of a listing is one of a row that is met
 
-each_first : (P : Row → Type 0) (i k : ℕ) (r : Row) (rs : List Row) → Each P rs → first_at i k rs ≡ At r → P r
+each_first : (P : Row → Type 0) (i k : ℕ) (r : Row) (rs : List Row) → Each P rs → first_at i k rs ≡ Some r → P r
 unfolding first_at
-each_first P i k r [] u e = let z : ◌≡◌ {A = ℕ} 0 1 = cc in absurd (omega arith)
+each_first P i k r [] u e = cc
 each_first P i k r (q ∷ rs) u e = go (at_or_after i k q) (each_first P i k r rs u.1) e
   where
-    go : (t : Bool) → (first_at i k rs ≡ At r → P r) → pick t (At q) (first_at i k rs) ≡ At r → P r
+    go : (t : Bool) → (first_at i k rs ≡ Some r → P r) → pick t (Some q) (first_at i k rs) ≡ Some r → P r
     go true f h = let z : q ≡ r = ap (row_or r) h in rw (← z) u.0
     go false f h = f h
 
-pub row-stands : (shows : List ℕ → Bool) → shows [] ≡ false → (s : List ℕ) → Listable s → (i k : ℕ) (r : Row) → first_at i k (rows_of shows s) ≡ At r → Standing s r
+pub row-stands : (shows : List ℕ → Bool) → shows [] ≡ false → (s : List ℕ) → Listable s → (i k : ℕ) (r : Row) → first_at i k (rows_of shows s) ≡ Some r → Standing s r
 row-stands shows none s d i k r e = each_first (Standing s) i k r (rows_of shows s) (rows-stand shows none s d) e
 
 -- ---- rows as numbers
@@ -240,14 +233,12 @@ numbers-append : (xs ys : List Row) → numbers_of_all (xs ++ ys) ≡ numbers_of
 numbers-append [] ys = refl
 numbers-append (r ∷ xs) ys = ap (λ (l : List ℕ). numbers_of r ++ l) (numbers-append xs ys)
 
--- stores in a row
-pub row-stored : (d : List ℕ) (at : ℕ) (r : Row) → at + numbers_per_row ≤ length d
-    → set (set (set (set d at r.page.0) (at + 1) r.slot) (at + 2) r.length) (at + 3) r.offset ≡ paste d at (numbers_of r) numbers_per_row
-row-stored d at r l =
-    let a : at + 1 ≡ suc at = omega arith in
-    let b : at + 2 ≡ suc (suc at) = omega arith in
-    let c : at + 3 ≡ suc (suc (suc at)) = omega arith in
-    rw (a, b, c) (sets-eq (numbers_of r) d at l)
+-- a store of them
+pub row-stored : (d new : List ℕ) (at n : ℕ) (r : Row) → n ≡ numbers_per_row → new ≡ numbers_of r → take at d ++ (new ++ drop n (drop at d)) ≡ paste d at (numbers_of r) numbers_per_row
+row-stored d new at n r e h =
+    let t : take numbers_per_row (numbers_of r) ≡ numbers_of r = take_all numbers_per_row (numbers_of r) (omega arith) in
+    ap₂ (λ (x y : List ℕ). take at d ++ (x ++ y)) (h ∙ sym t) (ap (λ (m : ℕ). drop m (drop at d)) e ∙ drop-drop numbers_per_row at d)
+    ∙ sym (append_assoc (take at d) (take numbers_per_row (numbers_of r)) (drop (at + numbers_per_row) d))
 
 -- from slot k₀ of page i₀ on some rows were given and stored as m numbers, and slot k of page i is where to go on
 pub record Given (shows : List ℕ → Bool) (s out₀ : List ℕ) (i₀ k₀ i k m : ℕ) (out : List ℕ) : Type 0 where
@@ -265,14 +256,11 @@ cut all done rest n e (inr p) =
     rw (z, p.0) (take_all n done p.1, drop_of_length-le done p.1)
 
 module _ (shows : List ℕ → Bool) (s out₀ : List ℕ) (i₀ k₀ : ℕ) where
-  pub given-none : Given shows s out₀ i₀ k₀ i₀ k₀ 0 out₀
-  given-none = record { done = []; goes = refl; stored = refl; many = refl; room = omega arith }
-
   module _ {i k m : ℕ} {out : List ℕ} (g : Given shows s out₀ i₀ k₀ i k m out) where
     pub given-length : length out ≡ length out₀
     given-length = ap length g.stored ∙ length-append (numbers_of_all g.done) (drop m out₀) ∙ simp (length-numbers, length-drop) (omega (arith, g.many, g.room))
 
-    pub given-more : (r : Row) (new : List ℕ) → first_at i k (rows_of shows s) ≡ At r → m + numbers_per_row ≤ length out₀ → new ≡ paste out m (numbers_of r) numbers_per_row
+    pub given-more : (r : Row) (new : List ℕ) → first_at i k (rows_of shows s) ≡ Some r → m + numbers_per_row ≤ length out₀ → new ≡ paste out m (numbers_of r) numbers_per_row
         → Given shows s out₀ i₀ k₀ r.page.0 (r.slot + 1) (m + numbers_per_row) new
     given-more r new e l h =
         let front : length (numbers_of_all g.done) ≡ m = length-numbers g.done ∙ sym g.many in
@@ -300,22 +288,24 @@ module _ (shows : List ℕ → Bool) (s out₀ : List ℕ) (i₀ k₀ : ℕ) whe
         → (listed (m / numbers_per_row) (pages_in s) [] ≡ list_of s (rows_of shows s) i₀ k₀ (length out₀ / numbers_per_row)) × (out ≡ list_after (rows_of shows s) i₀ k₀ out₀)
     given-end e = answer [] e (inr (refl, omega (arith, g.many, g.room)))
 
-    pub given-full : (r : Row) → first_at i k (rows_of shows s) ≡ At r → length out₀ < m + numbers_per_row
+    pub given-full : (r : Row) → first_at i k (rows_of shows s) ≡ Some r → length out₀ < m + numbers_per_row
         → (listed (m / numbers_per_row) (pages_in s) (r ∷ []) ≡ list_of s (rows_of shows s) i₀ k₀ (length out₀ / numbers_per_row)) × (out ≡ list_after (rows_of shows s) i₀ k₀ out₀)
     given-full r e l = answer (r ∷ rows_at r.page.0 (r.slot + 1) (rows_of shows s)) (row_next shows s i k r e) (inl (omega (arith, g.many, g.room)))
 
 -- ---- the whole answer
 
-module _ (magic : ℕ) (s : List ℕ) (rs : List Row) (i k : ℕ) (out : List ℕ) (v : Verdict) (is : v ≡ verdict_of magic s) where
-  pub list-refused : (v.number ≡ 0 → ⊥) → (no_list v ≡ row_list magic s rs i k (length out / numbers_per_row)) × (out ≡ rows_after magic s rs i k out)
-  unfolding row_list rows_after
-  list-refused h =
-      let t : eqb (verdict_of magic s).number 0 ≡ false = rw (← is) (ne_eqb v.number 0 h) in
-      (sym (rw (t, ← is)), sym (rw t))
+pub list-refused : (magic : ℕ) (s : List ℕ) (rs : List Row) (i k : ℕ) (out : List ℕ) → ((verdict_of magic s).number ≡ 0 → ⊥)
+    → (Err (verdict_of magic s) ≡ row_list magic s rs i k (length out / numbers_per_row)) × (out ≡ rows_after magic s rs i k out)
+unfolding row_list rows_after
+list-refused magic s rs i k out h = let t = ne_eqb (verdict_of magic s).number 0 h in (rw t, rw t)
 
-  pub list-taken : v.number ≡ 0 → (r : RowList) (new : List ℕ) → r ≡ list_of s rs i k (length out / numbers_per_row) → new ≡ list_after rs i k out
-      → (r ≡ row_list magic s rs i k (length out / numbers_per_row)) × (new ≡ rows_after magic s rs i k out)
+module _ (magic : ℕ) (s : List ℕ) (rs : List Row) (i k : ℕ) (out : List ℕ) {r : Result Unit Refused} (is : told r ≡ verdict_of magic s) where
+  pub list-err : {e : Refused} → r ≡ Err e → (Err (told_by e) ≡ row_list magic s rs i k (length out / numbers_per_row)) × (out ≡ rows_after magic s rs i k out)
+  list-err q =
+      let f = list-refused magic s rs i k out (err-some is q) in
+      (ap Err (err-refused is q) ∙ f.0, f.1)
+
+  pub list-taken : {u : Unit} → r ≡ Ok u → (l : RowList) (new : List ℕ) → l ≡ list_of s rs i k (length out / numbers_per_row) → new ≡ list_after rs i k out
+      → (Ok l ≡ row_list magic s rs i k (length out / numbers_per_row)) × (new ≡ rows_after magic s rs i k out)
   unfolding row_list rows_after
-  list-taken h r new e f =
-      let t : eqb (verdict_of magic s).number 0 ≡ true = rw (← is) (eq-eqb v.number 0 h) in
-      (rw t e, rw t f)
+  list-taken q l new e f = (ok-answered is q l ∙ ap (answered (verdict_of magic s)) e, rw (eq-eqb (verdict_of magic s).number 0 (ok-accepted is q)) f)

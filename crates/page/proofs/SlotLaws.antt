@@ -16,8 +16,9 @@ use Rattle.endian.specs.Numbers.{part}
 use Rattle.page.specs.Layout.{body_bytes, row_head, body_of, slot_off, slot_len, deleted_of}
 use Rattle.page.specs.Good.{Filled, SlotGood, Holds}
 use Rattle.page.specs.Fault.{is_tuple, is_filled, is_empty, share, shares_earlier, slot_faulty, slots_fault}
+use Rattle.std.specs.Prelude.{Option, Some, None}
 use Rattle.page.specs.declared.Fault.{Fault}
-use Rattle.page.specs.declared.Fault.TheVariants.{Sound, Slot}
+use Rattle.page.specs.declared.Fault.TheVariants.{Slot}
 use Rattle.page.proofs.Picks.{both, neither, either, cleared, any}
 use Rattle.page.proofs.Reading.{deleted-at}
 
@@ -179,31 +180,31 @@ module _ (b : List ℕ) (end : ℕ) where
       let z : n - k ≡ suc (n - (k + 1)) = omega arith in
       rw (z, faulty-not b end k f e, add-one)
 
-  pub slots-hit : (n k : ℕ) → k < n → slot_faulty b end k ≡ true → slots_fault b end (n - k) k ≡ Slot k
+  pub slots-hit : (n k : ℕ) → k < n → slot_faulty b end k ≡ true → slots_fault b end (n - k) k ≡ Some (Slot k)
   unfolding slots_fault
   slots-hit n k l e = let z : n - k ≡ suc (n - (k + 1)) = omega arith in rw (z, e)
 
-  pub slots_end : (n k : ℕ) → n ≤ k → slots_fault b end (n - k) k ≡ Sound
+  pub slots_end : (n k : ℕ) → n ≤ k → slots_fault b end (n - k) k ≡ None
   unfolding slots_fault
   slots_end n k l = let z : n - k ≡ 0 = omega arith in rw z
 
-  pub slots-sound : (n k : ℕ) → ((j : ℕ) → k ≤ j → j < k + n → slot_faulty b end j ≡ false) → slots_fault b end n k ≡ Sound
+  pub slots-sound : (n k : ℕ) → ((j : ℕ) → k ≤ j → j < k + n → slot_faulty b end j ≡ false) → slots_fault b end n k ≡ None
   unfolding slots_fault
   slots-sound zero k h = refl
   slots-sound (suc n) k h = rw (h k (omega arith) (omega arith)) (slots-sound n (suc k) (λ j l m. h j (omega arith) (omega arith)))
 
-  pub sound-slots : (n k : ℕ) → slots_fault b end n k ≡ Sound → (j : ℕ) → k ≤ j → j < k + n → slot_faulty b end j ≡ false
+  pub sound-slots : (n k : ℕ) → slots_fault b end n k ≡ None → (j : ℕ) → k ≤ j → j < k + n → slot_faulty b end j ≡ false
   unfolding slots_fault
   sound-slots zero k e j l m = absurd (omega arith)
   sound-slots (suc n) k e j l m =
-      let p : (slot_faulty b end k ≡ false) × (slots_fault b end n (suc k) ≡ Sound) = passed (slot_faulty b end k) k _ e in
+      let p : (slot_faulty b end k ≡ false) × (slots_fault b end n (suc k) ≡ None) = passed (slot_faulty b end k) k _ e in
       elim (dec_le j k) [
         | yes r ↦ let z : j ≡ k = omega arith in rw z p.0
         | no r ↦ sound-slots n (suc k) p.1 j (omega arith) (omega arith)
       ]
     where
-      passed : (t : Bool) (i : ℕ) (f : Fault) → pick t (Slot i) f ≡ Sound → (t ≡ false) × (f ≡ Sound)
-      passed true i f q = let z : ◌≡◌ {A = ℕ} 0 1 = cc in absurd (omega arith)
+      passed : (t : Bool) (i : ℕ) (f : Option Fault) → pick t (Some (Slot i)) f ≡ None → (t ≡ false) × (f ≡ None)
+      passed true i f q = cc
       passed false i f q = (refl, q)
 
 -- ---- packed order
@@ -216,10 +217,6 @@ pub record Ordered (b : List ℕ) (end count k top : ℕ) : Type 0 where
   pub rest : slots_fault b end (count - k) k ≡ slots_fault b end count 0
 
 module _ (b : List ℕ) (end count : ℕ) where
-  pub ordered-none : Ordered b end count 0 body_bytes
-  ordered-none =
-      record { upto = omega arith; low = omega arith; behind = λ j i l h. absurd (omega arith); rest = slots-start b end count }
-
   module _ {k top : ℕ} (more : k < count) (d : Ordered b end count k top) where
     -- slot k comes next, with its tuple between `top'` and `top`
     next : (top' : ℕ) → top' ≤ top → slot_off b k + slot_len b k ≤ top → ((i : ℕ) → Holds b k i → top' ≤ i) → fine b end k ≡ true → Ordered b end count (k + 1) top'
@@ -246,5 +243,5 @@ module _ (b : List ℕ) (end count : ℕ) where
           next o (omega arith) (omega arith) (λ i x. omega arith)
           (good-fine b end k (inr (record { long = f.long; above = f.above; within = omega (arith, d.low); deleted = f.deleted })))
 
-pub ordered-all : (b : List ℕ) (end count k top : ℕ) → count ≤ k → Ordered b end count k top → slots_fault b end count 0 ≡ Sound
+pub ordered-all : (b : List ℕ) (end count k top : ℕ) → count ≤ k → Ordered b end count k top → slots_fault b end count 0 ≡ None
 ordered-all b end count k top l d = sym d.rest ∙ slots_end b end count k l

@@ -7,19 +7,23 @@ use Prim.Native.Nat.{ℕ, zero, suc, ◌+◌, ◌-◌, ◌*◌, ◌%◌, ◌≤�
 use native.Mathlib.Decide.{dec_le}
 use native.Mathlib.Numerals.{add-one}
 use native.Mathlib.Omega.{arith}
-use mathlib.Core.List.{List}
-use lib.ListN.{length, take, drop, length-drop}
-use lib.Seq.{length-take-le}
+use mathlib.Core.List.{List, []}
+use lib.ListN.{length, take, drop, get_or, length-drop}
+use lib.Seq.{length-take-le, take_all, drop-drop}
+use Rattle.std.specs.Simd.{first_chunks}
 use lib.Dec.{ltb}
 use borrow.Author.Tests.{le-ltb, eq-eqb, ne_eqb, ltb-false, eqb-true}
 use Rattle.endian.specs.Pick.{pick}
 use Rattle.page.specs.Layout.{page_bytes, page_limit, pages_in, page_at, lsn_of}
 use Rattle.page.specs.Good.{Good}
-use Rattle.refusals.specs.Verdict.{verdict, accepted, ◌then◌}
+use Rattle.refusals.specs.Verdict.{verdict, accepted, ◌then◌, told_by, told}
+use Rattle.refusals.specs.declared.Refused.{Refused}
+use Rattle.refusals.proofs.Told.{refused-some, err-some, err-refused, ok-accepted}
 use Rattle.refusals.proofs.Then.{then-refused, then-accepted, then-zero}
-use Rattle.page.specs.Fault.{fault_of, is_sound, fault_verdict, never_late, page_verdict, first_bad, size_wrong, verdict_from}
+use Rattle.page.specs.Fault.{fault_of, is_sound, refusal_of, fault_verdict, never_late, page_verdict, first_bad, size_wrong, verdict_from}
+use Rattle.std.specs.Prelude.{Option, Some, None, Result, Ok, Err}
 use Rattle.page.specs.declared.Fault.{Fault}
-use Rattle.page.specs.declared.Fault.TheVariants.{Sound, MagicOrType, Id, Checksum, Count, FreeStart, FreeEnd, Slot}
+use Rattle.page.specs.declared.Fault.TheVariants.{MagicOrType, Id, Checksum, Count, FreeStart, FreeEnd, Slot}
 use Rattle.refusals.specs.declared.Verdict.{Verdict}
 use Rattle.page.proofs.Picks.{never, cleared}
 use Rattle.page.proofs.FaultLaws.{sound-good, good-sound}
@@ -33,23 +37,35 @@ page-length s i h = length-take-le page_bytes (drop (i * page_bytes) s) (simp le
 pub page-part : (s : List ℕ) (i : ℕ) → take (i * 16384 + 16384 - i * 16384) (drop (i * 16384) s) ≡ page_at i s
 page-part s i = let e : i * 16384 + 16384 - i * 16384 ≡ 16384 = omega arith in rw e
 
+-- `pages.as_chunks().0[i]`
+pub chunk-at : (k i : ℕ) (s : List ℕ) → i < k → get_or (first_chunks page_bytes k s) i [] ≡ page_at i s
+chunk-at zero i s l = absurd (omega arith)
+chunk-at (suc k) zero s l = refl
+chunk-at (suc k) (suc i) s l =
+    let e : page_bytes + i * page_bytes ≡ suc i * page_bytes = omega arith in
+    chunk-at k i (drop page_bytes s) (omega arith) ∙ ap (take page_bytes) (drop-drop (i * page_bytes) page_bytes s) ∙ ap (λ (n : ℕ). take page_bytes (drop n s)) e
+
+-- the one page of as many bytes as a page has
+pub one_page : (s : List ℕ) → length s ≡ page_bytes → page_at 0 s ≡ s
+one_page s l = take_all page_bytes s (omega arith)
+
 -- ---- one fault
 
 -- only a sound page is not refused
-judge : (f : Fault) (i : ℕ) → ((f ≡ Sound) × (fault_verdict f i ≡ accepted)) ⊎ ((f ≡ Sound → ⊥) × ((fault_verdict f i).number ≡ 0 → ⊥))
-judge Sound i = inl (refl, refl)
-judge MagicOrType i = inr (λ e. never (ap is_sound e), λ z. omega arith)
-judge Id i = inr (λ e. never (ap is_sound e), λ z. omega arith)
-judge Checksum i = inr (λ e. never (ap is_sound e), λ z. omega arith)
-judge Count i = inr (λ e. never (ap is_sound e), λ z. omega arith)
-judge FreeStart i = inr (λ e. never (ap is_sound e), λ z. omega arith)
-judge FreeEnd i = inr (λ e. never (ap is_sound e), λ z. omega arith)
-judge (Slot k) i = inr (λ e. never (ap is_sound e), λ z. omega arith)
+judge : (f : Option Fault) (i : ℕ) → ((f ≡ None) × (fault_verdict f i ≡ accepted)) ⊎ ((f ≡ None → ⊥) × ((fault_verdict f i).number ≡ 0 → ⊥))
+judge None i = inl (refl, refl)
+judge (Some MagicOrType) i = inr (λ e. never (ap is_sound e), λ z. omega arith)
+judge (Some Id) i = inr (λ e. never (ap is_sound e), λ z. omega arith)
+judge (Some Checksum) i = inr (λ e. never (ap is_sound e), λ z. omega arith)
+judge (Some Count) i = inr (λ e. never (ap is_sound e), λ z. omega arith)
+judge (Some FreeStart) i = inr (λ e. never (ap is_sound e), λ z. omega arith)
+judge (Some FreeEnd) i = inr (λ e. never (ap is_sound e), λ z. omega arith)
+judge (Some (Slot k)) i = inr (λ e. never (ap is_sound e), λ z. omega arith)
 
 -- ---- one page
 
 module _ (late : ℕ → Bool) (magic i : ℕ) (p : List ℕ) where
-  pub page-fine : (page_verdict late magic i p).number ≡ 0 → (fault_of magic i p ≡ Sound) × (late (lsn_of p) ≡ false)
+  pub page-fine : (page_verdict late magic i p).number ≡ 0 → (fault_of magic i p ≡ None) × (late (lsn_of p) ≡ false)
   unfolding page_verdict
   page-fine e =
       let z = then-zero (fault_verdict (fault_of magic i p) i) _ e in
@@ -62,24 +78,24 @@ module _ (late : ℕ → Bool) (magic i : ℕ) (p : List ℕ) where
       by-lsn true h = absurd (omega arith)
       by-lsn false h = refl
 
-  pub fine-page : fault_of magic i p ≡ Sound → late (lsn_of p) ≡ false → page_verdict late magic i p ≡ accepted
+  pub fine-page : fault_of magic i p ≡ None → late (lsn_of p) ≡ false → page_verdict late magic i p ≡ accepted
   unfolding page_verdict
   fine-page e l = rw (e, l)
 
+  -- a fault comes first
+  first-fault : ((fault_verdict (fault_of magic i p) i).number ≡ 0 → ⊥) → fault_verdict (fault_of magic i p) i ≡ page_verdict late magic i p
+  unfolding page_verdict
+  first-fault h = sym (then-refused (fault_verdict (fault_of magic i p) i) _ h)
+
   -- as code goes through the cases
-  module _ (v : Verdict) (is : v ≡ fault_verdict (fault_of magic i p) i) where
-    pub page-fault : (v.number ≡ 0 → ⊥) → v ≡ page_verdict late magic i p
-    unfolding page_verdict
-    page-fault h = sym (rw (← is) (then-refused v _ h))
+  pub page-fault : (f : Fault) (e : Refused) → fault_of magic i p ≡ Some f → told_by e ≡ refusal_of f i → told_by e ≡ page_verdict late magic i p
+  page-fault f e is h =
+      let g : told_by e ≡ fault_verdict (fault_of magic i p) i = rw is h in
+      g ∙ first-fault (λ z. refused-some e (ap (λ (v : Verdict). v.number) g ∙ z))
 
-    module _ (ok : v.number ≡ 0) where
-      pub page-late : late (lsn_of p) ≡ true → verdict 12 i ≡ page_verdict late magic i p
-      unfolding page_verdict
-      page-late h = sym (rw (← is, h) (then-accepted v _ ok))
-
-      pub page-known : late (lsn_of p) ≡ false → accepted ≡ page_verdict late magic i p
-      unfolding page_verdict
-      page-known h = sym (rw (← is, h) (then-accepted v _ ok))
+  pub page-late : fault_of magic i p ≡ None → late (lsn_of p) ≡ true → verdict 12 i ≡ page_verdict late magic i p
+  unfolding page_verdict
+  page-late is h = rw (is, h)
 
 -- ---- the search
 
@@ -93,6 +109,14 @@ module _ (late : ℕ → Bool) (magic : ℕ) (s : List ℕ) where
 
   pub bad-here : (n i : ℕ) → i < n → ((page_verdict late magic i (page_at i s)).number ≡ 0 → ⊥) → first_bad late magic s (n - i) i ≡ page_verdict late magic i (page_at i s)
   bad-here n i l h = turn n i l ∙ then-refused _ _ h
+
+  -- what a result tells of page i
+  module _ {T : Type 0} {r : Result T Refused} (n i : ℕ) (l : i < n) (is : told r ≡ page_verdict late magic i (page_at i s)) where
+    pub bad-err : {e : Refused} → r ≡ Err e → told_by e ≡ first_bad late magic s (n - i) i
+    bad-err q = err-refused is q ∙ sym (bad-here n i l (err-some is q))
+
+    pub bad-ok : {x : T} → r ≡ Ok x → first_bad late magic s (n - (i + 1)) (i + 1) ≡ first_bad late magic s (n - i) i
+    bad-ok q = sym (bad-next n i l (ok-accepted is q))
 
   pub bad-end : (n i : ℕ) → n ≤ i → first_bad late magic s (n - i) i ≡ accepted
   unfolding first_bad
@@ -161,7 +185,7 @@ module _ (magic : ℕ) (s : List ℕ) (first : ℕ) where
 
       refused : ((refusal magic s i).number ≡ 0 → ⊥) → (page_verdict never_late magic i (page_at i s) then first_bad never_late magic s n (suc i)) ≡ refusal magic s i
       refused h =
-          let e : refusal magic s i ≡ page_verdict never_late magic i (page_at i s) = page-fault never_late magic i (page_at i s) (refusal magic s i) refl h in
+          let e : refusal magic s i ≡ page_verdict never_late magic i (page_at i s) = first-fault never_late magic i (page_at i s) h in
           rw (← e) (then-refused (refusal magic s i) _ h)
 
   -- refusal 1, or what the search finds

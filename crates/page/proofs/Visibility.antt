@@ -2,10 +2,11 @@
 -- Assumes nothing.
 use mathlib.Core.Path.{◌≡◌, refl, sym, ap, ◌∙◌}
 use mathlib.Core.Logic.{inl, inr}
-use mathlib.Core.Bool.{Bool, true, false, not, ◌&&◌}
-use Prim.Native.Nat.{ℕ, suc, ◌+◌, ◌≤◌, ◌<◌}
+use mathlib.Core.Bool.{Bool, true, false, not, ◌&&◌, beq}
+use Prim.Native.Nat.{ℕ, ◌+◌, ◌≤◌, ◌<◌}
 use native.Mathlib.Omega.{arith}
 use mathlib.Core.List.{List, [], ◌∷◌}
+use Rattle.std.specs.Prelude.{Option, Some, None}
 use lib.Dec.{eqb}
 use lib.ListN.{length, drop, get_or, length-drop}
 use lib.Seq.{length-take-le}
@@ -20,9 +21,9 @@ use Rattle.page.proofs.Reading.{deleted-at, xmax-at}
 
 -- ---- what a listing shows
 
--- the length of a tuple that is shown; 0 for any other, which no shown one has
-abbrev pub shown_length : Bool → List ℕ → ℕ
-shown_length live t = pick (shown live t) (length t) 0
+-- the length of a tuple that is shown
+abbrev pub shown_length : Bool → List ℕ → Option ℕ
+shown_length live t = pick (shown live t) (Some (length t)) None
 
 -- an empty slot is not shown
 pub empty : (live : Bool) → shown live [] ≡ false
@@ -30,43 +31,41 @@ unfolding visible cancelled
 empty true = refl
 empty false = refl
 
-pub shown-none : (live : Bool) (t : List ℕ) → shown_length live t ≡ 0 → shown live t ≡ false
-shown-none live [] e = empty live
-shown-none live (b ∷ t) e = by-test (shown live (b ∷ t)) e
+pub shown-none : (live : Bool) (t : List ℕ) → shown_length live t ≡ None → shown live t ≡ false
+shown-none live t = by-test (shown live t)
   where
-    by-test : (v : Bool) → pick v (suc (length t)) 0 ≡ 0 → v ≡ false
-    by-test true q = absurd (omega arith)
+    by-test : (v : Bool) → pick v (Some (length t)) None ≡ None → v ≡ false
+    by-test true q = cc
     by-test false q = refl
 
-pub shown-some : (live : Bool) (t : List ℕ) → (shown_length live t ≡ 0 → ⊥) → (shown live t ≡ true) × (shown_length live t ≡ length t)
-shown-some live t = by-test (shown live t)
+pub shown-some : (live : Bool) (t : List ℕ) (n : ℕ) → shown_length live t ≡ Some n → (shown live t ≡ true) × (n ≡ length t)
+shown-some live t n = by-test (shown live t)
   where
-    by-test : (v : Bool) → (pick v (length t) 0 ≡ 0 → ⊥) → (v ≡ true) × (pick v (length t) 0 ≡ length t)
-    by-test true h = (refl, refl)
-    by-test false h = absurd (h refl)
+    by-test : (v : Bool) → pick v (Some (length t)) None ≡ Some n → (v ≡ true) × (n ≡ length t)
+    by-test true q = (refl, cc)
+    by-test false q = cc
 
 -- as a test finds it
 module _ (live : Bool) (t : List ℕ) (v : Bool) (is : v ≡ shown live t) where
-  pub length-shown : v ≡ true → (n : ℕ) → n ≡ length t → n ≡ shown_length live t
-  length-shown e n h = let q : shown live t ≡ true = sym is ∙ e in rw q h
+  pub length-shown : v ≡ true → (n : ℕ) → n ≡ length t → Some n ≡ shown_length live t
+  length-shown e n h = let q : shown live t ≡ true = sym is ∙ e in rw (q, h)
 
-  pub length-not : v ≡ false → 0 ≡ shown_length live t
-  length-not e = let q : shown live t ≡ false = sym is ∙ e in rw q
+cancels : (t : List ℕ) → 0 < length t → not (visible t) ≡ cancelled t
+unfolding cancelled
+cancels [] l = absurd (omega arith)
+cancels (b ∷ u) l = refl
 
-module _ (live : Bool) (t : List ℕ) (v : Bool) (is : v ≡ visible t) where
-  pub shows-live : live ≡ true → v ≡ shown live t
-  shows-live e = rw e is
-
-  cancels : 0 < length t → not (visible t) ≡ cancelled t
-  unfolding cancelled
-  cancels = by-tuple t
-    where
-      by-tuple : (u : List ℕ) → 0 < length u → not (visible u) ≡ cancelled u
-      by-tuple [] l = absurd (omega arith)
-      by-tuple (b ∷ u) l = refl
-
-  pub shows-cancelled : live ≡ false → 0 < length t → not v ≡ shown live t
-  shows-cancelled e l = rw (e, is) (cancels l)
+pub shows-as : (live v : Bool) (t : List ℕ) → v ≡ visible t → 0 < length t → beq v live ≡ shown live t
+shows-as true v t is l = rw (← is) (same v)
+  where
+    same : (b : Bool) → beq b true ≡ b
+    same true = refl
+    same false = refl
+shows-as false v t is l = rw is (other (visible t) ∙ cancels t l)
+  where
+    other : (b : Bool) → beq b false ≡ not b
+    other true = refl
+    other false = refl
 
 -- a tuple that is known not to be cancelled
 pub shows-known : (live : Bool) (t : List ℕ) → cancelled t ≡ false → 0 < length t → live ≡ shown live t
@@ -88,8 +87,8 @@ visible-some (b ∷ t) l = refl
 
 module _ (p : List ℕ) (size : length p ≡ page_bytes) (d : DataGood p) (k : ℕ) (l : k < count_of p) where
   -- it has no tuple
-  pub shown-empty : (live : Bool) → 0 ≡ slot_len (body_of p) k → 0 ≡ shown_length live (slot_at p k)
-  shown-empty live e = rw (slot-in p k l, ← e) (sym (ap (λ (v : Bool). pick v 0 0) (empty live)))
+  pub shown-empty : (live : Bool) → 0 ≡ slot_len (body_of p) k → None ≡ shown_length live (slot_at p k)
+  shown-empty live e = rw (slot-in p k l, ← e) (sym (ap (λ (v : Bool). pick v (Some 0) None) (empty live)))
 
   -- it has one
   module _ (some : 0 < slot_len (body_of p) k) where

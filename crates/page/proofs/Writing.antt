@@ -1,21 +1,16 @@
 -- What a writer of packed pages needs: a turn of its loop takes the body of the first k slots to the body of k + 1.
 -- Assumes nothing.
 use mathlib.Core.Path.{◌≡◌, refl, sym, ap, ◌∙◌}
-use Prim.Native.Nat.{ℕ, zero, suc, ◌+◌, ◌-◌, ◌*◌, ◌≤◌}
+use Prim.Native.Nat.{ℕ, suc, ◌+◌, ◌-◌, ◌*◌, ◌≤◌}
 use native.Mathlib.Omega.{arith}
 use mathlib.Core.List.{List, [], ◌∷◌, ◌++◌, append_assoc, append-nil}
 use lib.ListN.{length, take, drop, replicate, length-append, length-replicate, replicate-append-replicate}
 use lib.Seq.{take_at, drop_at, take-length, paste}
 use Rattle.endian.specs.Numbers.{bytes_of}
 use Rattle.page.specs.Layout.{body_bytes}
-use Rattle.page.specs.Packed.{body, dir, heap, off_of, slot_bytes, tuple_bytes, room_for, tab}
+use Rattle.page.specs.Packed.{body, dir, heap, slot_bytes, tuple_bytes, room_for, tab}
 use Rattle.page.proofs.Slots.{length-dir}
 use Rattle.page.proofs.Tables.{length-tab, tab-snoc, tuple_bytes-snoc}
-
--- a slot that holds something says where
-pub off-some : (n o : ℕ) → (n ≡ 0 → ⊥) → o ≡ off_of n o
-off-some zero o h = absurd (h refl)
-off-some (suc n) o h = refl
 
 pub heap-snoc : (ss : List (List ℕ)) (t : List ℕ) → heap (ss ++ (t ∷ [])) ≡ t ++ heap ss
 heap-snoc [] t = sym (append-nil t)

@@ -1,6 +1,6 @@
 -- The first fault of a page, in this order: magic or type, id, checksum; of a Data page the header's fields, then the slots. And the verdict on a page area (paper 01, Pages,
 -- Numbers given back; paper 02, W1).
-use Rattle.std.specs.Prelude.{ℕ, zero, suc, ◌+◌, ◌*◌, ◌-◌, ◌%◌, max, min, List, Bool, true, false, length, ltb, leb, eqb}
+use Rattle.std.specs.Prelude.{ℕ, zero, suc, ◌+◌, ◌*◌, ◌-◌, ◌%◌, max, min, List, Bool, true, false, Option, Some, None, length, ltb, leb, eqb}
 use Rattle.refusals.specs.Refusal.{page_area, page_magic_or_type, page_id, page_checksum, page_slots, page_lsn}
 use Rattle.refusals.specs.Verdict.{verdict, accepted, ◌then◌}
 use Rattle.endian.specs.Pick.{pick}
@@ -8,8 +8,9 @@ use Rattle.endian.specs.Numbers.{part}
 use Rattle.crc32c.specs.Crc.{crc32c}
 use Rattle.page.specs.Layout.{page_bytes, head_bytes, body_bytes, page_limit, slot_limit, count_at, free_start_at, free_end_at, row_head, data_type, last_type, pages_in, page_at, magic_of, type_of, count_of, crc_of, id_of, lsn_of, free_start_of, free_end_of, body_of, slot_off, slot_len, deleted_of}
 use Rattle.page.specs.declared.Fault.{Fault}
-use Rattle.page.specs.declared.Fault.TheVariants.{Sound, MagicOrType, Id, Checksum, Count, FreeStart, FreeEnd, Slot}
+use Rattle.page.specs.declared.Fault.TheVariants.{MagicOrType, Id, Checksum, Count, FreeStart, FreeEnd, Slot}
 use Rattle.refusals.specs.declared.Verdict.{Verdict}
+use Rattle.endian.specs.declared.Lsn.{Lsn}
 
 -- ---- a slot
 
@@ -39,49 +40,42 @@ unfoldable pub slot_faulty : List ℕ → ℕ → ℕ → Bool
 slot_faulty b end k = pick (pick (is_empty b k) true (is_filled b end k)) (shares_earlier b k k) true
 
 -- the first slot at fault among the n from k on
-unfoldable pub slots_fault : List ℕ → ℕ → ℕ → ℕ → Fault
-slots_fault b end zero k = Sound
-slots_fault b end (suc n) k = pick (slot_faulty b end k) (Slot k) (slots_fault b end n (suc k))
+unfoldable pub slots_fault : List ℕ → ℕ → ℕ → ℕ → Option Fault
+slots_fault b end zero k = None
+slots_fault b end (suc n) k = pick (slot_faulty b end k) (Some (Slot k)) (slots_fault b end n (suc k))
 
 -- ---- a page
 
-unfoldable pub data_fault : List ℕ → Fault
+unfoldable pub data_fault : List ℕ → Option Fault
 data_fault p =
-    pick (ltb slot_limit (count_of p)) Count
+    pick (ltb slot_limit (count_of p)) (Some Count)
     (pick (eqb (free_start_of p) (4 * count_of p))
     (pick (leb (free_start_of p) (free_end_of p))
     (pick (leb (free_end_of p) body_bytes)
     (slots_fault (body_of p) (free_end_of p) (count_of p) 0)
-    FreeEnd)
-    FreeEnd)
-    FreeStart)
+    (Some FreeEnd))
+    (Some FreeEnd))
+    (Some FreeStart))
 
-unfoldable pub fault_of : ℕ → ℕ → List ℕ → Fault
+unfoldable pub fault_of : ℕ → ℕ → List ℕ → Option Fault
 fault_of magic index p =
     pick (eqb (magic_of p) magic)
     (pick (leb (type_of p) last_type)
     (pick (eqb (id_of p) index)
     (pick (eqb (crc_of p) (crc32c (body_of p)))
-    (pick (eqb (type_of p) data_type) (data_fault p) Sound)
-    Checksum)
-    Id)
-    MagicOrType)
-    MagicOrType
+    (pick (eqb (type_of p) data_type) (data_fault p) None)
+    (Some Checksum))
+    (Some Id))
+    (Some MagicOrType))
+    (Some MagicOrType)
 
 -- no fault
-abbrev pub is_sound : Fault → Bool
-is_sound Sound = true
-is_sound MagicOrType = false
-is_sound Id = false
-is_sound Checksum = false
-is_sound Count = false
-is_sound FreeStart = false
-is_sound FreeEnd = false
-is_sound (Slot k) = false
+abbrev pub is_sound : Option Fault → Bool
+is_sound None = true
+is_sound (Some f) = false
 
 -- the slot that a fault names; 0 where it names none
 abbrev pub slot_in : Fault → ℕ
-slot_in Sound = 0
 slot_in MagicOrType = 0
 slot_in Id = 0
 slot_in Checksum = 0
@@ -97,15 +91,18 @@ abbrev pub slot_rule : ℕ → ℕ → Verdict
 slot_rule i at = verdict page_slots (page_bytes * i + at)
 
 -- what a fault of the page at an index is refused by, and where
-abbrev pub fault_verdict : Fault → ℕ → Verdict
-fault_verdict Sound i = accepted
-fault_verdict MagicOrType i = verdict page_magic_or_type i
-fault_verdict Id i = verdict page_id i
-fault_verdict Checksum i = verdict page_checksum i
-fault_verdict Count i = slot_rule i count_at
-fault_verdict FreeStart i = slot_rule i free_start_at
-fault_verdict FreeEnd i = slot_rule i free_end_at
-fault_verdict (Slot k) i = slot_rule i (head_bytes + 4 * k)
+abbrev pub refusal_of : Fault → ℕ → Verdict
+refusal_of MagicOrType i = verdict page_magic_or_type i
+refusal_of Id i = verdict page_id i
+refusal_of Checksum i = verdict page_checksum i
+refusal_of Count i = slot_rule i count_at
+refusal_of FreeStart i = slot_rule i free_start_at
+refusal_of FreeEnd i = slot_rule i free_end_at
+refusal_of (Slot k) i = slot_rule i (head_bytes + 4 * k)
+
+abbrev pub fault_verdict : Option Fault → ℕ → Verdict
+fault_verdict None i = accepted
+fault_verdict (Some f) i = refusal_of f i
 
 -- which LSNs of a page are refused: those above a known one; in verification none
 abbrev pub late_at : ℕ → ℕ → Bool
@@ -115,8 +112,9 @@ abbrev pub never_late : ℕ → Bool
 never_late lsn = false
 
 -- one of the two, as code is told it
-abbrev pub late_of : Bool → ℕ → ℕ → Bool
-late_of bounded known lsn = pick bounded (late_at known lsn) (never_late lsn)
+abbrev pub late_of : Option Lsn → ℕ → Bool
+late_of None = never_late
+late_of (Some known) = late_at known.0
 
 -- the page at an index: its fault, then 12
 unfoldable pub page_verdict : (ℕ → Bool) → ℕ → ℕ → List ℕ → Verdict

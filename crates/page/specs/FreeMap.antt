@@ -1,10 +1,10 @@
 -- The map of free pages (paper 01, Numbers given back).
-use Rattle.std.specs.Prelude.{ℕ, zero, suc, ◌+◌, ◌*◌, ◌/◌, List, [], ◌∷◌, ◌++◌, length, drop, ltb, eqb}
+use Rattle.std.specs.Prelude.{ℕ, zero, suc, ◌+◌, ◌*◌, ◌/◌, List, [], ◌∷◌, ◌++◌, Result, length, drop, ltb, eqb}
 use Rattle.std.specs.Int.Count.{ones}
 use Rattle.refusals.specs.Refusal.{map_short}
 use Rattle.endian.specs.Pick.{pick}
 use Rattle.page.specs.Layout.{free_type, pages_in, page_at, type_of}
-use Rattle.refusals.specs.Verdict.{verdict, accepted}
+use Rattle.refusals.specs.Verdict.{verdict, accepted, answered}
 use Rattle.page.specs.Fault.{verdict_of}
 use Rattle.refusals.specs.declared.Verdict.{Verdict}
 
@@ -50,6 +50,6 @@ map_after magic s map =
     (map_bytes s (map_length s) 0 ++ drop (map_length s) map)
     map
 
--- the count that is given back; refused, 0
-unfoldable pub free_count : ℕ → List ℕ → List ℕ → ℕ
-free_count magic s map = pick (eqb (map_verdict magic s map).number 0) (free_pages s (pages_in s) 0) 0
+-- the count that is given back; refused, none
+unfoldable pub free_count : ℕ → List ℕ → List ℕ → Result ℕ Verdict
+free_count magic s map = answered (map_verdict magic s map) (free_pages s (pages_in s) 0)

@@ -1,15 +1,13 @@
 -- Visible rows (paper 01, Numbers given back; paper 02, W2), and the cancelled ones.
-use Rattle.std.specs.Prelude.{ℕ, zero, suc, ◌*◌, ◌/◌, ◌<◌, ◌≡◌, List, [], ◌∷◌, ◌++◌, Bool, false, not, ◌&&◌, length, take, drop, ltb, leb, eqb}
+use Rattle.std.specs.Prelude.{ℕ, zero, suc, ◌*◌, ◌/◌, ◌<◌, ◌≡◌, List, [], ◌∷◌, ◌++◌, Bool, false, not, ◌&&◌, Option, Some, None, Result, length, take, drop, ltb, leb, eqb}
 use Rattle.endian.specs.Pick.{pick, cons_if}
 use Rattle.page.specs.Layout.{data_type, pages_in, page_at, type_of, count_of, slot_at, tuple_offset, xmax_of, deleted_of, payload_of}
 use Rattle.page.specs.Fault.{verdict_of}
-use Rattle.refusals.specs.Verdict.{accepted}
+use Rattle.refusals.specs.Verdict.{answered}
 use Rattle.refusals.specs.declared.Verdict.{Verdict}
 use Rattle.page.specs.Good.{DataGood}
 use Rattle.page.specs.declared.Row.{Row}
 use Rattle.page.specs.declared.RowList.{RowList}
-use Rattle.page.specs.declared.NextRow.{NextRow}
-use Rattle.page.specs.declared.NextRow.TheVariants.{Refused, At, NoMore}
 
 -- a tuple is a visible row: there is one, its deleted byte is 0 and its xmax is 0
 unfoldable pub visible : List ℕ → Bool
@@ -57,9 +55,9 @@ unfoldable pub at_or_after : ℕ → ℕ → Row → Bool
 at_or_after i k r = pick (eqb r.page.0 i) (leb k r.slot) (ltb i r.page.0)
 
 -- the first of some rows at or after slot k of page i
-unfoldable pub first_at : ℕ → ℕ → List Row → NextRow
-first_at i k [] = NoMore
-first_at i k (r ∷ rs) = pick (at_or_after i k r) (At r) (first_at i k rs)
+unfoldable pub first_at : ℕ → ℕ → List Row → Option Row
+first_at i k [] = None
+first_at i k (r ∷ rs) = pick (at_or_after i k r) (Some r) (first_at i k rs)
 
 -- those of some rows that stand at or after slot k of page i
 unfoldable pub rows_at : ℕ → ℕ → List Row → List Row
@@ -67,11 +65,8 @@ rows_at i k [] = []
 rows_at i k (r ∷ rs) = cons_if (at_or_after i k r) r (rows_at i k rs)
 
 -- refused as verification refuses, else the row
-abbrev pub unless_refused : Verdict → NextRow → NextRow
-unless_refused v r = pick (eqb v.number 0) r (Refused v)
-
-unfoldable pub next_row : ℕ → List ℕ → ℕ → ℕ → NextRow
-next_row magic s i k = unless_refused (verdict_of magic s) (first_at i k (visible_rows s))
+unfoldable pub next_row : ℕ → List ℕ → ℕ → ℕ → Result (Option Row) Verdict
+next_row magic s i k = answered (verdict_of magic s) (first_at i k (visible_rows s))
 
 -- ---- a search (paper 02, W7 and below)
 
@@ -80,13 +75,13 @@ abbrev pub row_payload : List ℕ → Row → List ℕ
 row_payload s r = payload_of (slot_at (page_at r.page.0 s) r.slot)
 
 -- the first of some rows that passes a test
-unfoldable pub first_with : (Row → Bool) → List Row → NextRow
-first_with f [] = NoMore
-first_with f (r ∷ rs) = pick (f r) (At r) (first_with f rs)
+unfoldable pub first_with : (Row → Bool) → List Row → Option Row
+first_with f [] = None
+first_with f (r ∷ rs) = pick (f r) (Some r) (first_with f rs)
 
 -- the first visible row, in the order of the listing, that passes a test; refused as the listing is
-unfoldable pub searched : ℕ → List ℕ → (Row → Bool) → NextRow
-searched magic s f = unless_refused (verdict_of magic s) (first_with f (visible_rows s))
+unfoldable pub searched : ℕ → List ℕ → (Row → Bool) → Result (Option Row) Verdict
+searched magic s f = answered (verdict_of magic s) (first_with f (visible_rows s))
 
 -- ---- many rows at a time
 
@@ -107,8 +102,8 @@ numbers_of_all (r ∷ rs) = numbers_of r ++ numbers_of_all rs
 
 -- n rows were given, and these of an area of so many pages are left: the first of them is where to go on, the end of the area where there is none
 abbrev pub listed : ℕ → ℕ → List Row → RowList
-listed n pages [] = record { verdict = accepted; count = n; page = record { 0 = pages }; slot = 0 }
-listed n pages (r ∷ rs) = record { verdict = accepted; count = n; page = r.page; slot = r.slot }
+listed n pages [] = record { count = n; page = record { 0 = pages }; slot = 0 }
+listed n pages (r ∷ rs) = record { count = n; page = r.page; slot = r.slot }
 
 -- of the rows rs of pages s those from slot k of page i on, as many as there is room for
 unfoldable pub list_of : List ℕ → List Row → ℕ → ℕ → ℕ → RowList
@@ -122,11 +117,8 @@ unfoldable pub list_after : List Row → ℕ → ℕ → List ℕ → List ℕ
 list_after rs i k out = with_rows (take (length out / numbers_per_row) (rows_at i k rs)) out
 
 -- refused as verification refuses: nothing is given
-abbrev pub no_list : Verdict → RowList
-no_list v = record { verdict = v; count = 0; page = record { 0 = 0 }; slot = 0 }
-
-unfoldable pub row_list : ℕ → List ℕ → List Row → ℕ → ℕ → ℕ → RowList
-row_list magic s rs i k room = pick (eqb (verdict_of magic s).number 0) (list_of s rs i k room) (no_list (verdict_of magic s))
+unfoldable pub row_list : ℕ → List ℕ → List Row → ℕ → ℕ → ℕ → Result RowList Verdict
+row_list magic s rs i k room = answered (verdict_of magic s) (list_of s rs i k room)
 
 unfoldable pub rows_after : ℕ → List ℕ → List Row → ℕ → ℕ → List ℕ → List ℕ
 rows_after magic s rs i k out = pick (eqb (verdict_of magic s).number 0) (list_after rs i k out) out

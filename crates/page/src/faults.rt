@@ -1,17 +1,16 @@
 // The rules of a Data page's slots.
-ghost use Rattle.std.specs.Prelude.{◌≡◌, true, ℕ, ◌+◌, ◌*◌, ◌≤◌, ◌<◌, max, min, length};
+ghost use Rattle.std.specs.Prelude.{◌≡◌, true, None, ℕ, ◌+◌, ◌*◌, ◌≤◌, ◌<◌, length};
 ghost use Rattle.endian.specs.Pick.{pick};
 ghost use Rattle.page.specs.Layout.{page_bytes, body_bytes, slot_limit, body_of};
 ghost use Rattle.page.specs.Fault.{is_tuple, is_empty, is_filled, share, slots_fault};
-ghost use Rattle.page.specs.declared.Fault.TheVariants.{Sound};
 
 use crate::granules::by_granules;
 use crate::inner::{slot_len, slot_off};
-use crate::{BODY_BYTES, DELETED_AT, Fault, ROW_HEAD_BYTES};
+use crate::{BODY_BYTES, DELETED_AT, Fault, PAGE_BYTES, ROW_HEAD_BYTES};
 
 // Whether the n bytes at o of the body are a tuple that lies between end and top.
-pub fn tuple_fits(page: &[u8], end: usize, top: usize, o: usize, n: usize) -> bool
-    requires { (length page.now ≡ page_bytes) × (top ≤ body_bytes) × (o < 65536) × (n < 65536) }
+pub fn tuple_fits(page: &[u8; PAGE_BYTES], end: usize, top: usize, o: usize, n: usize) -> bool
+    requires { (top ≤ body_bytes) × (o < 65536) × (n < 65536) }
     ensures { result ≡ is_tuple (body_of page.now) end top o n }
 {
     if n < ROW_HEAD_BYTES {
@@ -27,8 +26,8 @@ pub fn tuple_fits(page: &[u8], end: usize, top: usize, o: usize, n: usize) -> bo
 }
 
 // Whether slot k is empty, or holds a tuple that lies between end and the body's end.
-fn slot_fits(page: &[u8], end: usize, k: usize) -> bool
-    requires { (length page.now ≡ page_bytes) × (k < slot_limit) }
+fn slot_fits(page: &[u8; PAGE_BYTES], end: usize, k: usize) -> bool
+    requires { k < slot_limit }
     ensures { result ≡ pick (is_empty (body_of page.now) k) true (is_filled (body_of page.now) end k) }
 {
     let o = slot_off(page, k);
@@ -39,39 +38,25 @@ fn slot_fits(page: &[u8], end: usize, k: usize) -> bool
     tuple_fits(page, end, BODY_BYTES, o, n)
 }
 
-fn larger(a: usize, b: usize) -> usize
-    ensures { result ≡ max a b }
-{
-    if a < b { b } else { a }
-}
-
-fn smaller(a: usize, b: usize) -> usize
-    ensures { result ≡ min a b }
-{
-    if a < b { a } else { b }
-}
-
 // Whether the tuples of slots j and k share a byte.
-fn shares(page: &[u8], j: usize, k: usize) -> bool
-    requires { (length page.now ≡ page_bytes) × (j < slot_limit) × (k < slot_limit) }
+fn shares(page: &[u8; PAGE_BYTES], j: usize, k: usize) -> bool
+    requires { (j < slot_limit) × (k < slot_limit) }
     ensures { result ≡ share (body_of page.now) j k }
 {
     let a = slot_off(page, j);
     let b = slot_off(page, k);
-    larger(a, b) < smaller(a + slot_len(page, j), b + slot_len(page, k))
+    a.max(b) < (a + slot_len(page, j)).min(b + slot_len(page, k))
 }
 
 // Whether no slot is at fault and the tuples stand in packed order, each before the one of the slot before it.
-fn in_order(page: &[u8], end: usize, count: usize) -> bool
-    requires { (length page.now ≡ page_bytes) × (count ≤ slot_limit) }
-    ensures { result ≡ true → slots_fault (body_of page.now) end count 0 ≡ Sound }
+fn in_order(page: &[u8; PAGE_BYTES], end: usize, count: usize) -> bool
+    requires { count ≤ slot_limit }
+    ensures { result ≡ true → slots_fault (body_of page.now) end count 0 ≡ None }
 {
     let mut top = BODY_BYTES;
-    let mut k: usize = 0;
-    while k < count {
+    for k in 0..count {
         let o = slot_off(page, k);
         let n = slot_len(page, k);
-        k += 1;
         if o + n == 0 {
             continue;
         }
@@ -84,45 +69,40 @@ fn in_order(page: &[u8], end: usize, count: usize) -> bool
 }
 
 // The first slot that is at fault by itself or shares a byte with an earlier one. An empty slot shares none and is passed.
-fn first_fault(page: &[u8], end: usize, count: usize) -> Fault
-    requires { (length page.now ≡ page_bytes) × (count ≤ slot_limit) }
+fn first_fault(page: &[u8; PAGE_BYTES], end: usize, count: usize) -> Option<Fault>
+    requires { count ≤ slot_limit }
     ensures { result ≡ slots_fault (body_of page.now) end count 0 }
 {
-    let mut found = Fault::Sound;
-    let mut k: usize = 0;
-    'slots: while k < count {
+    let mut found = None;
+    'slots: for k in 0..count {
         if !slot_fits(page, end, k) {
-            found = Fault::Slot(k);
+            found = Some(Fault::Slot(k));
             break;
         }
         if slot_len(page, k) == 0 {
-            k += 1;
             continue;
         }
-        let mut j: usize = 0;
-        'earlier: while j < k {
+        'earlier: for j in 0..k {
             if shares(page, j, k) {
-                found = Fault::Slot(k);
+                found = Some(Fault::Slot(k));
                 break 'slots;
             }
-            j += 1;
         }
-        k += 1;
     }
     found
 }
 
 // The first slot at fault of a page whose header's fields are right: one pass where the tuples stand in packed order, a pass by granules where no slot is at
 // fault, else the slots one with another.
-pub fn slots_fault(page: &[u8], end: usize, count: usize) -> Fault
-    requires { (length page.now ≡ page_bytes) × (count ≤ slot_limit) }
+pub fn slots_fault(page: &[u8; PAGE_BYTES], end: usize, count: usize) -> Option<Fault>
+    requires { count ≤ slot_limit }
     ensures { result ≡ slots_fault (body_of page.now) end count 0 }
 {
     if in_order(page, end, count) {
-        return Fault::Sound;
+        return None;
     }
     if by_granules(page, end, count) {
-        return Fault::Sound;
+        return None;
     }
     first_fault(page, end, count)
 }

@@ -4,10 +4,11 @@
 ghost use Rattle.std.specs.Prelude.{◌≡◌, ◌/◌, length};
 ghost use Rattle.page.specs.Fault.{verdict_from, verdict_of};
 ghost use Rattle.page.specs.Rows.{shown, rows_of, visible_rows, cancelled_rows, next_row, numbers_per_row, row_list, rows_after};
-ghost use Rattle.page.specs.FreeMap.{map_verdict, free_count, map_after};
+ghost use Rattle.page.specs.FreeMap.{free_count, map_after};
+ghost use Rattle.refusals.specs.Verdict.{told, by_number};
 
 use endian::{Lsn, PageNumber};
-use refusals::{MAP_SHORT, Verdict};
+use refusals::{Refusal, Refused};
 
 mod faults;
 mod granules;
@@ -60,7 +61,7 @@ const XMAX_AT: usize = HEAD_BYTES + 8;
 
 const DELETED_AT: usize = HEAD_BYTES + 16;
 
-// Page types.
+// Page types. They stay numbers, from 0 to 6: recovery knows these two by name, and a page of any other keeps its number (`PageHead`, `put_front`).
 pub const DATA_TYPE: u8 = 1;
 
 pub const FREE_TYPE: u8 = 4;
@@ -70,7 +71,6 @@ pub const LAST_TYPE: u8 = 6;
 // The first fault of a page, in the order in which they are looked for.
 #[derive(Clone, Copy)]
 pub enum Fault {
-    Sound,
     MagicOrType,
     Id,
     Checksum,
@@ -98,54 +98,40 @@ pub struct Row {
     pub offset: usize,
 }
 
-// What a listing step answers.
-#[derive(Clone, Copy)]
-pub enum NextRow {
-    Refused(Verdict),
-    At(Row),
-    NoMore,
-}
-
-// What listing many rows answers: a refusal, or how many rows were given and where to go on.
+// What listing many rows answers: how many rows were given and where to go on.
 #[derive(Clone, Copy)]
 pub struct RowList {
-    pub verdict: Verdict,
     pub count: usize,
     pub page: PageNumber,
     pub slot: usize,
 }
 
-// What making a free map answers: a refusal, or the count of free pages.
-#[derive(Clone, Copy)]
-pub struct FreeMap {
-    pub verdict: Verdict,
-    pub free: u64,
-}
-
 // Whether every page is good: refusal 1, then the first bad page's, by 11, 17, 18 or 19.
-pub fn verify(magic: u64, pages: &[u8]) -> Verdict
-    ensures { result ≡ verdict_of magic pages.now }
+pub fn verify(magic: u64, pages: &[u8]) -> Result<(), Refused>
+    ensures { told result ≡ verdict_of magic pages.now }
 {
     verify_from(magic, pages, PageNumber(0))
 }
 
 // The same of the pages from an index on, so that a caller finds every bad page one after the other. Numbers, places and ids are those of the whole area.
-pub fn verify_from(magic: u64, pages: &[u8], first: PageNumber) -> Verdict
-    ensures { result ≡ verdict_from magic pages.now first.0 }
+pub fn verify_from(magic: u64, pages: &[u8], first: PageNumber) -> Result<(), Refused>
+    ensures { told result ≡ verdict_from magic pages.now first.0 }
 {
     let t = crc32c::inner::tables();
     inner::verify_from(&t, magic, pages, first.0 as usize)
 }
 
 // The first visible row at or after a slot of a page. Refuses as `verify` does.
-pub fn next_visible(magic: u64, pages: &[u8], page: PageNumber, slot: usize) -> NextRow
-    ensures { result ≡ next_row magic pages.now page.0 slot }
+pub fn next_visible(
+    magic: u64,
+    pages: &[u8],
+    page: PageNumber,
+    slot: usize,
+) -> Result<Option<Row>, Refused>
+    ensures { by_number result ≡ next_row magic pages.now page.0 slot }
 {
-    let v = verify(magic, pages);
-    if v.number != 0 {
-        return NextRow::Refused(v);
-    }
-    inner::next_row(pages, page.0 as usize, slot)
+    verify(magic, pages)?;
+    Ok(inner::next_row(pages, page.0 as usize, slot))
 }
 
 // Lists live rows, which are the visible ones, or cancelled ones.
@@ -156,21 +142,13 @@ fn list_rows(
     page: PageNumber,
     slot: usize,
     out: &mut [u64],
-) -> RowList
-    ensures value { result ≡ row_list magic pages.now (rows_of (shown live) pages.now) page.0 slot (length out.old / numbers_per_row) }
+) -> Result<RowList, Refused>
+    ensures value { by_number result ≡ row_list magic pages.now (rows_of (shown live) pages.now) page.0 slot (length out.old / numbers_per_row) }
     ensures out_after { out.new ≡ rows_after magic pages.now (rows_of (shown live) pages.now) page.0 slot out.old }
 {
     let mut notes = [0u8; PAGE_LIMIT];
-    let v = inner::verify_noting(magic, pages, &mut notes);
-    if v.number != 0 {
-        return RowList {
-            verdict: v,
-            count: 0,
-            page: PageNumber(0),
-            slot: 0,
-        };
-    }
-    list::fill(pages, &notes, live, page.0 as usize, slot, out)
+    inner::verify_noting(magic, pages, &mut notes)?;
+    Ok(list::fill(pages, &notes, live, page.0 as usize, slot, out))
 }
 
 // Fills the lent numbers with the visible rows at or after a slot of a page, four numbers a row: page, slot, length, offset in the page area; verifies the pages once. Gives
@@ -182,8 +160,8 @@ pub fn list_visible(
     page: PageNumber,
     slot: usize,
     out: &mut [u64],
-) -> RowList
-    ensures value { result ≡ row_list magic pages.now (visible_rows pages.now) page.0 slot (length out.old / numbers_per_row) }
+) -> Result<RowList, Refused>
+    ensures value { by_number result ≡ row_list magic pages.now (visible_rows pages.now) page.0 slot (length out.old / numbers_per_row) }
     ensures out_after { out.new ≡ rows_after magic pages.now (visible_rows pages.now) page.0 slot out.old }
 {
     list_rows(magic, pages, true, page, slot, out)
@@ -196,8 +174,8 @@ pub fn list_cancelled(
     page: PageNumber,
     slot: usize,
     out: &mut [u64],
-) -> RowList
-    ensures value { result ≡ row_list magic pages.now (cancelled_rows pages.now) page.0 slot (length out.old / numbers_per_row) }
+) -> Result<RowList, Refused>
+    ensures value { by_number result ≡ row_list magic pages.now (cancelled_rows pages.now) page.0 slot (length out.old / numbers_per_row) }
     ensures out_after { out.new ≡ rows_after magic pages.now (cancelled_rows pages.now) page.0 slot out.old }
 {
     list_rows(magic, pages, false, page, slot, out)
@@ -205,35 +183,16 @@ pub fn list_cancelled(
 
 // Writes the map of free pages: bit i, lowest bit first, is 1 exactly if page i is free; needed bytes whole, spare bits 0. Refuses as `verify` does,
 // then by 16, which leaves the map as it is.
-pub fn free_map(magic: u64, pages: &[u8], map: &mut [u8]) -> FreeMap
-    ensures verdict_value { result.verdict ≡ map_verdict magic pages.now map.old }
-    ensures free_value { result.free ≡ free_count magic pages.now map.old }
+pub fn free_map(magic: u64, pages: &[u8], map: &mut [u8]) -> Result<u64, Refused>
+    ensures free_value { by_number result ≡ free_count magic pages.now map.old }
     ensures map_after { map.new ≡ map_after magic pages.now map.old }
 {
-    let v = verify(magic, pages);
-    if v.number != 0 {
-        return FreeMap {
-            verdict: v,
-            free: 0,
-        };
-    }
+    verify(magic, pages)?;
     let count = pages.len() / PAGE_BYTES;
     let need = (count + 7) / 8;
     if map.len() < need {
-        return FreeMap {
-            verdict: Verdict {
-                number: MAP_SHORT,
-                place: 0,
-            },
-            free: 0,
-        };
+        return Err(Refusal::MapShort.at(0));
     }
     map::fill(pages, map, need);
-    FreeMap {
-        verdict: Verdict {
-            number: 0,
-            place: 0,
-        },
-        free: inner::ones(&map[..need]),
-    }
+    Ok(inner::ones(&map[..need]))
 }

@@ -6,11 +6,10 @@ ghost use Rattle.page.specs.Rows.{Listable, shown, rows_of, numbers_of, numbers_
 ghost use Rattle.page.specs.Notes.{Noted};
 
 use crate::inner::next_shown;
-use crate::{NextRow, PAGE_BYTES, Row, RowList};
+use crate::{PAGE_BYTES, Row, RowList};
 use endian::PageNumber;
-use refusals::Verdict;
 
-// A row is four numbers.
+// A row is four numbers, since the C interface lends numbers (`lq_list_visible`, `lq_list_cancelled`).
 const ROW_NUMBERS: usize = 4;
 
 // Puts a row's numbers at a place.
@@ -18,25 +17,12 @@ fn put_row(out: &mut [u64], at: usize, row: Row)
     requires { at + numbers_per_row ≤ length out.old }
     ensures { out.new ≡ paste out.old at (numbers_of row) numbers_per_row }
 {
-    out[at] = row.page.0;
-    out[at + 1] = row.slot as u64;
-    out[at + 2] = row.length as u64;
-    out[at + 3] = row.offset as u64;
-}
-
-// Where a listing of count rows goes on.
-fn row_list(count: usize, page: PageNumber, slot: usize) -> RowList
-    ensures { result ≡ record { verdict = record { number = 0; place = 0 }; count = count; page = page; slot = slot } }
-{
-    RowList {
-        verdict: Verdict {
-            number: 0,
-            place: 0,
-        },
-        count: count,
-        page: page,
-        slot: slot,
-    }
+    out[at..at + ROW_NUMBERS].copy_from_slice(&[
+        row.page.0,
+        row.slot as u64,
+        row.length as u64,
+        row.offset as u64,
+    ]);
 }
 
 // Fills the lent numbers with the rows at or after a slot of the page at an index that a listing shows, on pages that were verified.
@@ -56,21 +42,23 @@ pub fn fill(
     let mut i = index;
     let mut k = slot;
     let mut m: usize = 0;
-    loop {
-        let next = next_shown(pages, notes, live, i, k);
-        let NextRow::At(row) = next else {
-            return row_list(
-                m / ROW_NUMBERS,
-                PageNumber((pages.len() / PAGE_BYTES) as u64),
-                0,
-            );
-        };
-        if out.len() - m < ROW_NUMBERS {
-            return row_list(m / ROW_NUMBERS, row.page, row.slot);
+    while let Some(row) = next_shown(pages, notes, live, i, k) {
+        let full = out.len() - m < ROW_NUMBERS;
+        if full {
+            return RowList {
+                count: m / ROW_NUMBERS,
+                page: row.page,
+                slot: row.slot,
+            };
         }
         put_row(out, m, row);
         m += ROW_NUMBERS;
         i = row.page.0 as usize;
         k = row.slot + 1;
+    }
+    RowList {
+        count: m / ROW_NUMBERS,
+        page: PageNumber((pages.len() / PAGE_BYTES) as u64),
+        slot: 0,
     }
 }

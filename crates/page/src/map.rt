@@ -10,9 +10,7 @@ fn map_byte(pages: &[u8], i: usize) -> u8
     ensures { result ≡ bits pages.now 8 i }
 {
     let mut b: u8 = 0;
-    let mut j: usize = 8;
-    while 0 < j {
-        j -= 1;
+    for j in (0..8).rev() {
         b = 2 * b + free_bit(pages, i + j);
     }
     b
@@ -23,9 +21,7 @@ pub fn fill(pages: &[u8], map: &mut [u8], n: usize)
     requires { (n ≤ length map.old) × (n ≤ 4096) }
     ensures { map.new ≡ map_bytes pages.now n 0 ++ drop n map.old }
 {
-    let mut m = 0;
-    while m < n {
+    for m in 0..n {
         map[m] = map_byte(pages, 8 * m);
-        m += 1;
     }
 }

@@ -4,8 +4,8 @@
 ghost use Rattle.std.specs.Prelude.{◌≡◌, length};
 
 use endian::PageNumber;
-use page::{Fault, NextRow, RowList};
-use refusals::Verdict;
+use page::{Fault, RowList};
+use refusals::Refused;
 use std::io;
 
 const MAGIC: u64 = 0x0123_4567_89AB_CDEF;
@@ -42,16 +42,24 @@ fn base() -> [u8; 16384] {
 
 // ---- what is seen
 
-fn show_fault(rt: &impl Print, f: Fault) -> io::Result<()> {
+fn show_fault(rt: &impl Print, f: Option<Fault>) -> io::Result<()> {
     match f {
-        Fault::Sound => print!(rt; "sound"),
-        Fault::MagicOrType => print!(rt; "magic or type"),
-        Fault::Id => print!(rt; "id"),
-        Fault::Checksum => print!(rt; "checksum"),
-        Fault::Count => print!(rt; "count"),
-        Fault::FreeStart => print!(rt; "free start"),
-        Fault::FreeEnd => print!(rt; "free end"),
-        Fault::Slot(k) => print!(rt; "slot {k}"),
+        None => print!(rt; "sound"),
+        Some(Fault::MagicOrType) => print!(rt; "magic or type"),
+        Some(Fault::Id) => print!(rt; "id"),
+        Some(Fault::Checksum) => print!(rt; "checksum"),
+        Some(Fault::Count) => print!(rt; "count"),
+        Some(Fault::FreeStart) => print!(rt; "free start"),
+        Some(Fault::FreeEnd) => print!(rt; "free end"),
+        Some(Fault::Slot(k)) => print!(rt; "slot {k}"),
+    }
+}
+
+// A refusal's number and place; 0 at 0 where nothing is refused.
+fn show_told<T: Drop>(rt: &impl Print, r: Result<T, Refused>) -> io::Result<()> {
+    match r {
+        Ok(_) => print!(rt; "0 at 0"),
+        Err(e) => print!(rt; "{} at {}", e.refusal.number(), e.place),
     }
 }
 
@@ -60,8 +68,9 @@ fn judge(rt: &impl Print, name: &str, p: &[u8; 16384]) -> io::Result<()> {
     let t = crc32c::inner::tables();
     print!(rt; "{name}: ")?;
     show_fault(rt, page::inner::fault(&t, MAGIC, PageNumber(0), p))?;
-    let v = page::verify(MAGIC, p);
-    println!(rt; ", {} at {}", v.number, v.place)
+    print!(rt; ", ")?;
+    show_told(rt, page::verify(MAGIC, p))?;
+    println!(rt)
 }
 
 // ---- the cases
@@ -138,8 +147,10 @@ fn pair_cases(rt: &impl Print) -> io::Result<()> {
 
 // ---- which of several faults is given
 
-fn show_verdict(rt: &impl Print, name: &str, v: Verdict) -> io::Result<()> {
-    println!(rt; "{name}: {} at {}", v.number, v.place)
+fn show_verdict(rt: &impl Print, name: &str, r: Result<(), Refused>) -> io::Result<()> {
+    print!(rt; "{name}: ")?;
+    show_told(rt, r)?;
+    println!(rt)
 }
 
 // Two pages, of which the first is good and the second has a magic, a type and an id, and its header's numbers.
@@ -273,42 +284,36 @@ fn show_row(rt: &impl Print, pages: &[u8], i: u64, k: usize) -> io::Result<()> {
     print!(rt; "rows from {i}, {k}")?;
     let r = page::next_visible(MAGIC, pages, PageNumber(i), k);
     match r {
-        NextRow::Refused(v) => println!(rt; ": refused by {}", v.number),
-        NextRow::At(w) => println!(rt;
+        Err(e) => println!(rt; ": refused by {}", e.refusal.number()),
+        Ok(Some(w)) => println!(rt;
             ": page {}, slot {}, length {}, at {}",
             w.page.0, w.slot, w.length, w.offset
         ),
-        NextRow::NoMore => println!(rt; ": none"),
+        Ok(None) => println!(rt; ": none"),
     }
-}
-
-fn show_at(rt: &impl Print, s: &[u64], j: usize) -> io::Result<()> {
-    if j < s.len() {
-        print!(rt; " {}", s[j])?;
-    }
-    Ok(())
 }
 
 // The first nine of some numbers.
 fn show_nine(rt: &impl Print, s: &[u64]) -> io::Result<()> {
-    show_at(rt, s, 0)?;
-    show_at(rt, s, 1)?;
-    show_at(rt, s, 2)?;
-    show_at(rt, s, 3)?;
-    show_at(rt, s, 4)?;
-    show_at(rt, s, 5)?;
-    show_at(rt, s, 6)?;
-    show_at(rt, s, 7)?;
-    show_at(rt, s, 8)?;
+    for n in s.iter().take(9) {
+        print!(rt; " {n}")?;
+    }
     println!(rt)
 }
 
-fn show_answer(rt: &impl Print, name: &str, i: u64, k: usize, l: RowList) -> io::Result<()> {
-    let v = l.verdict;
-    print!(rt;
-        "{name}{i}, {k}: {} at {}, rows {}, on from {}, {}:",
-        v.number, v.place, l.count, l.page.0, l.slot
-    )
+fn show_answer(
+    rt: &impl Print,
+    name: &str,
+    i: u64,
+    k: usize,
+    r: Result<RowList, Refused>,
+) -> io::Result<()> {
+    print!(rt; "{name}{i}, {k}: ")?;
+    show_told(rt, r)?;
+    match r {
+        Ok(l) => print!(rt; ", rows {}, on from {}, {}:", l.count, l.page.0, l.slot),
+        Err(_) => print!(rt; ", rows 0, on from 0, 0:"),
+    }
 }
 
 // What a listing gives back, and the numbers that it was lent.
@@ -333,12 +338,11 @@ fn show_cancelled(
 
 fn show_map(rt: &impl Print, name: &str, pages: &[u8], map: &mut [u8]) -> io::Result<()> {
     let r = page::free_map(MAGIC, pages, map);
-    let v = r.verdict;
+    print!(rt; "{name}: ")?;
+    show_told(rt, r)?;
     println!(rt;
-        "{name}: {} at {}, free {}, map {:04x}",
-        v.number,
-        v.place,
-        r.free,
+        ", free {}, map {:04x}",
+        r.unwrap_or(0),
         endian::u16_at(map, 0)
     )
 }

@@ -1,5 +1,5 @@
 -- The row header and the payload of an image. Assumes nothing.
-use Rattle.std.specs.Prelude.{◌≡◌, ℕ, ◌+◌, ◌*◌, ◌^◌, ◌<◌, ◌≤◌, Bool, true, false, eqb, ◌⊎◌, List, [], ◌∷◌, ◌++◌, length, get_or, take, drop}
+use Rattle.std.specs.Prelude.{◌≡◌, ℕ, ◌+◌, ◌*◌, ◌^◌, ◌<◌, ◌≤◌, Bool, true, false, eqb, ◌⊎◌, List, [], ◌∷◌, ◌++◌, length, get_or, take, drop, Option, None, Some}
 use mathlib.Core.Path.{refl, sym, ap, ◌∙◌}
 use mathlib.Core.Logic.{inl, inr}
 use mathlib.Core.List.{append_assoc}
@@ -17,8 +17,10 @@ use Rattle.page.proofs.Reading.{deleted-in}
 use Rattle.rules.specs.Shape.{stamped}
 use Rattle.rules.specs.Row.{head_of, refused_row}
 use Rattle.rules.proofs.ImageLaws.{stamped-length, stamped-deleted}
-use Rattle.images.specs.declared.Image.{Image}
-use Rattle.images.specs.Tuples.{Lies, tuple_at, tuple_in}
+use Rattle.endian.specs.declared.TxnNumber.{TxnNumber}
+use Rattle.change.specs.declared.Image.{Image}
+use Rattle.change.specs.declared.Source.TheVariants.{Log, Page}
+use Rattle.change.specs.Tuples.{Lies, tuple_at, tuple_in}
 use Rattle.recovery.specs.Spot.{filled_by}
 
 -- ---- the header of a tuple by its fields
@@ -76,18 +78,18 @@ module _ (source : List ℕ) (m : Image) (within : m.place + m.length ≤ length
   field_at : (w at : ℕ) → at + w ≤ 24 → number_at w at bytes ≡ number_at w (m.place + at) source
   field_at w at h = number-take w at m.length (drop m.place source) (omega arith) ∙ number-drop w at m.place source
 
-  pub head-stamped : m.stamped ≡ true → m.by.0 < 2 ^ 64 → filled_by (number_at 8 m.place source) m.by.0 1 (number_at 7 (m.place + 17) source) ≡ head_of (tuple_at source m)
-  head-stamped e small =
-      let long-too : 24 ≤ length (stamped m.by.0 bytes) = omega (arith, stamped-length m.by.0 bytes image-long, image-long) in
-      let x : xmin_of (stamped m.by.0 bytes) ≡ number_at 8 m.place source = stamped-xmin m.by.0 bytes image-long ∙ field_at 8 0 (omega arith) ∙ ap (λ (k : ℕ). number_at 8 k source) zero-behind in
-      let h = head-some (stamped m.by.0 bytes) long-too in
-      let y : pad_of (stamped m.by.0 bytes) ≡ number_at 7 (m.place + 17) source = stamped-pad m.by.0 bytes image-long ∙ field_at 7 17 (omega arith) in
-      rw (e) (rw (x, stamped-xmax m.by.0 bytes image-long small, stamped-deleted m.by.0 bytes image-long, y) at h)
+  pub head-stamped : (x : TxnNumber) → m.deleted_by ≡ Some x → x.0 < 2 ^ 64 → filled_by (number_at 8 m.place source) x.0 1 (number_at 7 (m.place + 17) source) ≡ head_of (tuple_at source m)
+  head-stamped y e small =
+      let long-too : 24 ≤ length (stamped y.0 bytes) = omega (arith, stamped-length y.0 bytes image-long, image-long) in
+      let x : xmin_of (stamped y.0 bytes) ≡ number_at 8 m.place source = stamped-xmin y.0 bytes image-long ∙ field_at 8 0 (omega arith) ∙ ap (λ (k : ℕ). number_at 8 k source) zero-behind in
+      let h = head-some (stamped y.0 bytes) long-too in
+      let w : pad_of (stamped y.0 bytes) ≡ number_at 7 (m.place + 17) source = stamped-pad y.0 bytes image-long ∙ field_at 7 17 (omega arith) in
+      rw (e) (rw (x, stamped-xmax y.0 bytes image-long small, stamped-deleted y.0 bytes image-long, w) at h)
     where
       zero-behind : m.place + 0 ≡ m.place
       zero-behind = omega arith
 
-  pub head_plain : m.stamped ≡ false
+  pub head_plain : m.deleted_by ≡ None
       → filled_by (number_at 8 m.place source) (number_at 8 (m.place + 8) source) (get_or source (m.place + 16) 0) (number_at 7 (m.place + 17) source) ≡ head_of (tuple_at source m)
   head_plain e =
       let z : m.place + 0 ≡ m.place = omega arith in
@@ -97,21 +99,21 @@ module _ (source : List ℕ) (m : Image) (within : m.place + m.length ≤ length
 
 -- ---- an image in a log or in a page area
 module _ (log pages : List ℕ) (m : Image) where
-  pub tuple-logged : m.logged ≡ true → tuple_in log pages m ≡ tuple_at log m
+  pub tuple-logged : m.source ≡ Log → tuple_in log pages m ≡ tuple_at log m
   unfolding tuple_in
   tuple-logged e = rw e
 
-  pub tuple-paged : m.logged ≡ false → tuple_in log pages m ≡ tuple_at pages m
+  pub tuple-paged : m.source ≡ Page → tuple_in log pages m ≡ tuple_at pages m
   unfolding tuple_in
   tuple-paged e = rw e
 
   module _ (l : Lies log pages m) where
-    plain : m.length ≡ 0 → m.stamped ≡ false
-    plain z = go m.stamped refl
+    plain : m.length ≡ 0 → m.deleted_by ≡ None
+    plain z = go m.deleted_by refl
       where
-        go : (b : Bool) → m.stamped ≡ b → m.stamped ≡ false
-        go true e = absurd (omega (arith, (l.headed e).1))
-        go false e = e
+        go : (o : Option TxnNumber) → m.deleted_by ≡ o → m.deleted_by ≡ None
+        go (Some x) e = absurd (omega (arith, (l.headed x e).1))
+        go None e = e
 
     pub tuple-empty : m.length ≡ 0 → tuple_in log pages m ≡ []
     unfolding tuple_in
@@ -125,10 +127,10 @@ module _ (log pages : List ℕ) (m : Image) where
           go (inl z) = absurd (some z)
           go (inr h) = h
 
-      pub head-logged : m.logged ≡ true → (m.place + m.length ≤ length log) × (24 ≤ m.length)
+      pub head-logged : m.source ≡ Log → (m.place + m.length ≤ length log) × (24 ≤ m.length)
       head-logged e = (rw e at l.within, long)
 
-      pub head-paged : m.logged ≡ false → (m.place + m.length ≤ length pages) × (24 ≤ m.length)
+      pub head-paged : m.source ≡ Page → (m.place + m.length ≤ length pages) × (24 ≤ m.length)
       head-paged e = (rw e at l.within, long)
 
 -- ---- the header of a spot

@@ -18,13 +18,8 @@ use Rattle.rules.specs.Recover.{pages_from, stray_from, tight_from, recover_verd
 use Rattle.rules.proofs.Tests.{into, past}
 use Rattle.rules.proofs.OrderLaws.{InTurn, in-turn}
 use Rattle.refusals.proofs.Then.{then-refused, then-accepted, then-zero}
-use Rattle.order.specs.First.{told}
 use Rattle.fates.specs.Fate.{Ordered}
 use Rattle.rules.specs.Lent.{lent}
-
--- a number other than 0 is told as it is
-pub told-refused : (n at : ℕ) → (n ≡ 0 → ⊥) → told n at ≡ verdict n at
-told-refused n at h = rw (ne_eqb n 0 h)
 
 -- ---- an accepted log
 module _ (full : ℕ → Bool) (log : List ℕ) (h : (log_verdict full log).number ≡ 0) where
@@ -112,22 +107,12 @@ module _ (full : ℕ → Bool) (magic floor : ℕ) (pages log : List ℕ) where
         past-pages : recover_verdict full (lent magic floor pages log) ≡ (stray_from pages (entries log) first then tight_from (entries log) pages (pages_in pages) 0)
         past-pages = past-log ∙ then-accepted (pages_from magic floor (last_lsn (entries log)) pages (pages_in pages) 0) _ pages_ok
 
-        pub judge-stray : (at end : ℕ) → at < end → stray_from pages (entries log) first ≡ pick (ltb at end) (verdict 13 at) accepted → verdict 13 at ≡ recover_verdict full (lent magic floor pages log)
-        judge-stray at end l e =
-            let z : stray_from pages (entries log) first ≡ verdict 13 at = e ∙ rw (lt-ltb at end l) in
-            sym (past-pages ∙ rw z)
+        pub judge-stray : (v : Verdict) → v ≡ stray_from pages (entries log) first → (v.number ≡ 0 → ⊥) → v ≡ recover_verdict full (lent magic floor pages log)
+        judge-stray v e n = sym (past-pages ∙ rw (← e) (then-refused v _ n))
 
         module _ (stray_ok : (stray_from pages (entries log) first).number ≡ 0) where
           past-stray : recover_verdict full (lent magic floor pages log) ≡ tight_from (entries log) pages (pages_in pages) 0
           past-stray = past-pages ∙ then-accepted (stray_from pages (entries log) first) _ stray_ok
 
-          pub judge-tight : (i : ℕ) → i < pages_in pages → tight_from (entries log) pages (pages_in pages) 0 ≡ pick (ltb i (pages_in pages)) (verdict 14 i) accepted → verdict 14 i ≡ recover_verdict full (lent magic floor pages log)
-          judge-tight i l e = sym (past-stray ∙ e ∙ rw (lt-ltb i (pages_in pages) l))
-
-          pub judge-done : (i : ℕ) → pages_in pages ≤ i → tight_from (entries log) pages (pages_in pages) 0 ≡ pick (ltb i (pages_in pages)) (verdict 14 i) accepted → accepted ≡ recover_verdict full (lent magic floor pages log)
-          judge-done i l e = sym (past-stray ∙ e ∙ rw (le-ltb i (pages_in pages) l))
-
-pub stray-ok : (pages : List ℕ) (es : List Entry) (at end : ℕ) → end ≤ at → stray_from pages es first ≡ pick (ltb at end) (verdict 13 at) accepted → (stray_from pages es first).number ≡ 0
-stray-ok pages es at end l e =
-    let z : stray_from pages es first ≡ accepted = e ∙ rw (le-ltb at end l) in
-    ap (λ (v : Verdict). v.number) z
+          pub judge-tight : (v : Verdict) → v ≡ tight_from (entries log) pages (pages_in pages) 0 → v ≡ recover_verdict full (lent magic floor pages log)
+          judge-tight v e = e ∙ sym past-stray

@@ -1,6 +1,6 @@
 -- What judging tells, refusal by refusal, and what an accepted log and accepted pages are. Assumes nothing.
-use Rattle.std.specs.Prelude.{◌≡◌, ℕ, ◌*◌, ◌<◌, ◌≤◌, Bool, false, List, [], ◌∷◌, ◌++◌, length}
-use mathlib.Core.Path.{sym, ap, ◌∙◌}
+use Rattle.std.specs.Prelude.{◌≡◌, ℕ, ◌*◌, ◌<◌, ◌≤◌, Bool, false, List, [], ◌∷◌, ◌++◌, length, Result, IsErrAnd}
+use mathlib.Core.Path.{refl, sym, ap, ◌∙◌}
 use native.Mathlib.Omega.{arith}
 use borrow.Author.Tests.{eq-eqb}
 use Rattle.wal.specs.Entry.{Entry}
@@ -8,25 +8,29 @@ use Rattle.wal.specs.Read.{first}
 use Rattle.wal.specs.Walk.{entries, end_of}
 use Rattle.wal.proofs.Prefix.{met-end, before-end}
 use Rattle.page.specs.Layout.{page_bytes, data_type, pages_in, page_at, type_of}
-use Rattle.refusals.specs.Verdict.{verdict, accepted}
-use Rattle.page.specs.Fault.{size_wrong}
+use Rattle.refusals.specs.Verdict.{accepted, told_by}
 use Rattle.refusals.specs.declared.Verdict.{Verdict}
+use Rattle.page.specs.Fault.{size_wrong}
+use Rattle.refusals.specs.declared.Refused.{Refused}
+use Rattle.refusals.proofs.Told.{refused-some}
+use Rattle.std.proofs.lemmas.Result.{err_from_is_err_and}
 use Rattle.page.proofs.FaultLaws.{sound-good}
 use Rattle.page.proofs.Verdicts.{page-length, right-size}
-use Rattle.rules.specs.Order.{log_verdict, never_full}
-use Rattle.rules.specs.Recover.{pages_from, stray_from, recover_verdict}
+use Rattle.rules.specs.Order.{last_lsn, log_verdict, never_full}
+use Rattle.rules.specs.Recover.{pages_from, stray_from, tight_from, recover_verdict}
 use Rattle.rules.proofs.OrderLaws.{InTurn, in-turn}
 use Rattle.rules.proofs.Verdicts.{Sane, pages-sane, lent-all, stray-none}
-use Rattle.order.specs.First.{told}
-use Rattle.order.specs.declared.Walked.{Walked}
 use Rattle.fates.specs.Fate.{Ordered}
 use Rattle.cells.specs.Measure.{Sound as Rises}
 use Rattle.cells.proofs.Soundness.{Rising, sound-of}
-use Rattle.checks.specs.Judged.{Judged}
 use Rattle.images.specs.Page.{Sound, Touched}
-use Rattle.recovery.specs.Judgement.{Judgement, Gathered}
-use Rattle.recovery.specs.declared.Judged.{Judged as JudgedLog}
-use Rattle.recovery.proofs.JudgeLaws.{told-refused, judge-log}
+use Rattle.cells.specs.declared.Scratch.{Scratch}
+use Rattle.recovery.specs.Judgement.{Judgement}
+use Rattle.recovery.specs.declared.Judged.{Judged}
+use Rattle.recovery.proofs.JudgeLaws.{header_ok, ordered-ok, judge-log, judge-pages, judge-stray, judge-tight}
+use Rattle.checks.specs.declared.Found.{Found}
+use Rattle.checks.specs.Judged.{Measured}
+use Rattle.checks.proofs.LogLaws.{header-fits}
 use Rattle.rules.specs.Lent.{lent}
 
 -- ---- what an accepted log is
@@ -61,42 +65,42 @@ touched-ok magic floor last pages log n e p s =
 
 -- ---- the verdict, told
 
-pub log-ok : {full : ℕ → Bool} {log : List ℕ} {n : ℕ} {starts lasts : List ℕ} {w : Walked} → Judged full log n starts lasts w → w.number ≡ 0 → (log_verdict full log).number ≡ 0
-log-ok {full} {log} {n} {starts} {lasts} {w} j z = sym (ap (λ (v : Verdict). v.number) j.verdict) ∙ rw (eq-eqb w.number 0 z)
+-- refused, nothing is known
+pub judged-refused : {full : ℕ → Bool} {magic floor : ℕ} {pages log : List ℕ} {c : Scratch} (r : Result Judged Refused) (e : Refused) → IsErrAnd r (λ d. d ≡ e) → told_by e ≡ recover_verdict full (lent magic floor pages log)
+    → Judgement full magic floor pages log c r
+judged-refused r e h b = let p = err_from_is_err_and r h in rw (p.1, p.2) (record { tells = b; accepted = tt })
 
--- refused, nothing is listed or counted
-pub gathered_none : {pages log lists fronts space : List ℕ} {r : JudgedLog} → (r.walked.number ≡ 0 → ⊥) → Gathered pages log lists fronts space r
-gathered_none h = record { begin = λ z. absurd (h z); listed = λ z. absurd (h z); counts = λ z. absurd (h z) }
+-- behind the refusals of the size and of the log
+module _ (full : ℕ → Bool) (magic floor : ℕ) (pages log : List ℕ) (size : size_wrong pages ≡ false) where
+  pub err-log : (e : Refused) → told_by e ≡ log_verdict full log → told_by e ≡ recover_verdict full (lent magic floor pages log)
+  err-log e h = judge-log full magic floor pages log size (told_by e) h (refused-some e)
 
-module _ (full : ℕ → Bool) (magic floor : ℕ) (pages log starts lasts : List ℕ) where
-  pub judged-refused : (n at : ℕ) → (n ≡ 0 → ⊥) → verdict n at ≡ recover_verdict full (lent magic floor pages log)
-      → Judgement full magic floor pages log starts lasts (record { number = n; place = at; last = record { 0 = 0 } })
-  judged-refused n at h e =
-      record {
-        verdict = told-refused n at h ∙ e;
-        end = λ z. absurd (h z);
-        last = λ z. absurd (h z);
-        begin = λ z. absurd (h z);
-        touched = λ z. absurd (h z);
-      }
+  module _ (lt : accepted ≡ log_verdict full log) {n : ℕ} {c : Scratch} {f : Found} (m : Measured log n c f) where
+    log-zero : (log_verdict full log).number ≡ 0
+    log-zero = sym (ap (λ (v : Verdict). v.number) lt)
 
-  module _ (n : ℕ) (w : Walked) (j : Judged full log n starts lasts w) where
-    pub judged-log : size_wrong pages ≡ false → (w.number ≡ 0 → ⊥) → Judgement full magic floor pages log starts lasts w
-    judged-log size h =
-        record {
-          verdict = judge-log full magic floor pages log size (told w.number w.place) j.verdict (λ z. h (sym (ap (λ (v : Verdict). v.number) (told-refused w.number w.place h)) ∙ z));
-          end = λ z. absurd (h z);
-          last = λ z. absurd (h z);
-          begin = λ z. absurd (h z);
-          touched = λ z. absurd (h z);
-        }
+    pub now-ordered : Ordered log
+    now-ordered = ordered-ok full log log-zero
 
-    pub judged-all : w.number ≡ 0 → n ≡ pages_in pages → accepted ≡ recover_verdict full (lent magic floor pages log) → Judgement full magic floor pages log starts lasts w
-    judged-all z e v =
-        record {
-          verdict = rw (eq-eqb w.number 0 z) v;
-          end = j.end;
-          last = j.last;
-          begin = rw e at j.begin;
-          touched = rw e at j.touched;
-        }
+    pub now-small : length log ≤ 16777216
+    now-small = header-fits log (header_ok full log log-zero)
+
+    pub err-pages : (e : Refused) → told_by e ≡ pages_from magic floor f.walked.last.0 pages (pages_in pages) 0 → told_by e ≡ recover_verdict full (lent magic floor pages log)
+    err-pages e h = judge-pages full magic floor pages log size log-zero (told_by e) (rw m.last at h) (refused-some e)
+
+    module _ (pt : accepted ≡ pages_from magic floor f.walked.last.0 pages (pages_in pages) 0) where
+      pages-zero : (pages_from magic floor (last_lsn (entries log)) pages (pages_in pages) 0).number ≡ 0
+      pages-zero = sym (ap (λ (v : Verdict). v.number) (rw m.last at pt))
+
+      pub err-stray : (e : Refused) → told_by e ≡ stray_from pages (entries log) first → told_by e ≡ recover_verdict full (lent magic floor pages log)
+      err-stray e h = judge-stray full magic floor pages log size log-zero pages-zero (told_by e) h (refused-some e)
+
+      module _ (st : accepted ≡ stray_from pages (entries log) first) where
+        stray-zero : (stray_from pages (entries log) first).number ≡ 0
+        stray-zero = sym (ap (λ (v : Verdict). v.number) st)
+
+        pub now-touched : Touched log pages 0 (pages_in pages)
+        now-touched = touched-ok magic floor (last_lsn (entries log)) pages log (pages_in pages) refl pages-zero stray-zero
+
+        pub by-tight : (v : Verdict) → v ≡ tight_from (entries log) pages (pages_in pages) 0 → v ≡ recover_verdict full (lent magic floor pages log)
+        by-tight v h = judge-tight full magic floor pages log size log-zero pages-zero stray-zero v h

@@ -6,14 +6,17 @@ use Rattle.wal.specs.Entry.{Entry}
 use Rattle.wal.specs.Walk.{entries, end_of, ending_of, ending_number}
 use Rattle.wal.specs.declared.Reading.TheVariants.{Damage}
 use Rattle.page.specs.Layout.{page_bytes, data_type, pages_in, page_at, type_of}
-use Rattle.refusals.specs.Verdict.{verdict, accepted}
+use Rattle.refusals.specs.Verdict.{told_by}
+use Rattle.refusals.specs.declared.Refused.{Refused}
+use Rattle.refusals.proofs.Told.{refused-some}
 use Rattle.refusals.specs.declared.Verdict.{Verdict}
 use Rattle.rules.specs.Order.{count, is_begin, full_at, last_lsn}
 use Rattle.rules.specs.Recover.{recover_verdict, table_after, touched_from, mended_from, refused, done, Recovered, recover_by, recover_of}
 use Rattle.rules.specs.declared.Answer.{Answer}
 use Rattle.rules.specs.declared.Record.{Record}
 use Rattle.rules.proofs.Verdicts.{log-undamaged, is-accepted}
-use Rattle.order.specs.declared.Walked.{Walked}
+use Rattle.cells.specs.declared.Scratch.{Scratch}
+use Rattle.recovery.specs.declared.Judged.{Judged}
 use Rattle.fates.specs.Fate.{Ordered}
 use Rattle.tally.specs.Counts.{tally_of}
 use Rattle.table.specs.Flat.{stride, flat_after}
@@ -21,9 +24,9 @@ use Rattle.checks.proofs.LogLaws.{header-fits}
 use Rattle.table.proofs.Flattening.{length-records}
 use Rattle.recovery.specs.Flat.{rows, FlatRecovered, flattened, recover_flat}
 use Rattle.images.specs.Page.{Sound, Touched, Fitting}
-use Rattle.recovery.specs.Judgement.{Judgement, answer_from}
+use Rattle.recovery.specs.Judgement.{Accepted, answer_from}
 use Rattle.recovery.proofs.FlatLaws.{length-rows, flat_rows, flat_after_lem}
-use Rattle.recovery.proofs.JudgeLaws.{told-refused, header_ok, ordered-ok, begins-fit}
+use Rattle.recovery.proofs.JudgeLaws.{header_ok, ordered-ok, begins-fit}
 use Rattle.recovery.proofs.Judging.{size_is, sane-sound}
 use Rattle.rules.specs.Lent.{lent}
 
@@ -43,26 +46,17 @@ done-is es end way n = refl
 
 -- ---- a judgement
 
-module _ {full : ℕ → Bool} {magic floor : ℕ} {pages log starts lasts : List ℕ} {w : Walked} (j : Judgement full magic floor pages log starts lasts w) where
-  pub verdict-refused : (w.number ≡ 0 → ⊥) → recover_verdict full (lent magic floor pages log) ≡ verdict w.number w.place
-  verdict-refused h = sym j.verdict ∙ told-refused w.number w.place h
+module _ (full : ℕ → Bool) (magic floor : ℕ) (pages log : List ℕ) (table : List Record) where
+  pub run-refused : (e : Refused) → told_by e ≡ recover_verdict full (lent magic floor pages log) → (refused (told_by e) ≡ (recover_by (recover_verdict full (lent magic floor pages log)) pages log table).answer)
+      × (pages ≡ (recover_by (recover_verdict full (lent magic floor pages log)) pages log table).pages)
+  run-refused e h = rw (← h, by-refused (told_by e) pages log table (refused-some e)) (refl, refl)
 
-  pub verdict-zero : w.number ≡ 0 → (recover_verdict full (lent magic floor pages log)).number ≡ 0
-  verdict-zero z = sym (ap (λ (v : Verdict). v.number) j.verdict) ∙ rw (eq-eqb w.number 0 z)
-
-  pub verdict-done : w.number ≡ 0 → recover_verdict full (lent magic floor pages log) ≡ accepted
-  verdict-done z = sym j.verdict ∙ rw (eq-eqb w.number 0 z)
-
-  module _ (table : List Record) where
-    pub run-refused : (w.number ≡ 0 → ⊥) → (refused (verdict w.number w.place) ≡ (recover_by (recover_verdict full (lent magic floor pages log)) pages log table).answer)
-        × (pages ≡ (recover_by (recover_verdict full (lent magic floor pages log)) pages log table).pages)
-    run-refused h = rw (verdict-refused h, by-refused (verdict w.number w.place) pages log table h) (refl, refl)
-
-    pub run-done : w.number ≡ 0 → (answer_from w.last w.place (ending_number (ending_of log)) (tally_of (entries log)) (touched_from (entries log) (pages_in pages) 0) ≡ (recover_by (recover_verdict full (lent magic floor pages log)) pages log table).answer)
-        × (mended_from (entries log) pages (pages_in pages) 0 ≡ (recover_by (recover_verdict full (lent magic floor pages log)) pages log table).pages)
-    run-done z =
-        let l : w.last ≡ record { 0 = last_lsn (entries log) } = ap (λ (n : ℕ). record { 0 = n }) (j.last z) in
-        rw (by-done (recover_verdict full (lent magic floor pages log)) pages log table (verdict-zero z)) (rw (l, j.end z) (done-is (entries log) (end_of log) (ending_number (ending_of log)) (pages_in pages)), refl)
+  pub run-done : {c : Scratch} {j : Judged} → Accepted pages log c j → (recover_verdict full (lent magic floor pages log)).number ≡ 0
+      → (answer_from j.walked.last j.walked.end (ending_number (ending_of log)) (tally_of (entries log)) (touched_from (entries log) (pages_in pages) 0) ≡ (recover_by (recover_verdict full (lent magic floor pages log)) pages log table).answer)
+      × (mended_from (entries log) pages (pages_in pages) 0 ≡ (recover_by (recover_verdict full (lent magic floor pages log)) pages log table).pages)
+  run-done {j = j} a z =
+      let l : j.walked.last ≡ record { 0 = last_lsn (entries log) } = ap (λ (n : ℕ). record { 0 = n }) a.last in
+      rw (by-done (recover_verdict full (lent magic floor pages log)) pages log table z) (rw (l, a.end) (done-is (entries log) (end_of log) (ending_number (ending_of log)) (pages_in pages)), refl)
 
 -- ---- what acceptance tells
 
@@ -132,19 +126,19 @@ module _ (magic floor : ℕ) (pages log table : List ℕ) where
   unfolding recover_flat recover_of
   flat-is = rw (length-rows table)
 
-  abbrev Judged : Verdict
-  Judged = recover_verdict (full_at (length table / stride)) (lent magic floor pages log)
+  abbrev Judging : Verdict
+  Judging = recover_verdict (full_at (length table / stride)) (lent magic floor pages log)
 
   pub flat-answer : (recover_by (recover_verdict (full_at (length table / stride)) (lent magic floor pages log)) pages log []).answer ≡ (recover_flat (lent magic floor pages log) table).answer
-  flat-answer = by_answer Judged pages log [] (rows table) ∙ ap (λ (r : FlatRecovered). r.answer) (sym flat-is)
+  flat-answer = by_answer Judging pages log [] (rows table) ∙ ap (λ (r : FlatRecovered). r.answer) (sym flat-is)
 
   pub flat-pages : (recover_by (recover_verdict (full_at (length table / stride)) (lent magic floor pages log)) pages log []).pages ≡ (recover_flat (lent magic floor pages log) table).pages
-  flat-pages = by_pages Judged pages log [] (rows table) ∙ ap (λ (r : FlatRecovered). r.pages) (sym flat-is)
+  flat-pages = by_pages Judging pages log [] (rows table) ∙ ap (λ (r : FlatRecovered). r.pages) (sym flat-is)
 
   pub flat-done : (recover_verdict (full_at (length table / stride)) (lent magic floor pages log)).number ≡ 0 → flat_after (entries log) table ≡ (recover_flat (lent magic floor pages log) table).table
   flat-done z =
       sym (flat_after_lem (entries log) table (rw (length-records (entries log) (entries log), length-rows table) (begins-of (length table / stride) magic floor pages log z)))
-      ∙ ap (λ (r : Recovered). (flattened r table).table) (sym (by-done Judged pages log (rows table) z)) ∙ ap (λ (r : FlatRecovered). r.table) (sym flat-is)
+      ∙ ap (λ (r : Recovered). (flattened r table).table) (sym (by-done Judging pages log (rows table) z)) ∙ ap (λ (r : FlatRecovered). r.table) (sym flat-is)
 
   pub flat-refused : ((recover_verdict (full_at (length table / stride)) (lent magic floor pages log)).number ≡ 0 → ⊥) → table ≡ (recover_flat (lent magic floor pages log) table).table
-  flat-refused h = sym (flat_rows table) ∙ ap (λ (r : Recovered). (flattened r table).table) (sym (by-refused Judged pages log (rows table) h)) ∙ ap (λ (r : FlatRecovered). r.table) (sym flat-is)
+  flat-refused h = sym (flat_rows table) ∙ ap (λ (r : Recovered). (flattened r table).table) (sym (by-refused Judging pages log (rows table) h)) ∙ ap (λ (r : FlatRecovered). r.table) (sym flat-is)

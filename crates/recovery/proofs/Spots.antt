@@ -1,5 +1,5 @@
 -- Where a row's tuple stands, in the log or in the page area. Assumes nothing.
-use Rattle.std.specs.Prelude.{◌≡◌, ℕ, ◌+◌, ◌*◌, ◌<◌, ◌≤◌, Bool, true, false, ◌⊎◌, List, [], length, drop}
+use Rattle.std.specs.Prelude.{◌≡◌, ℕ, ◌+◌, ◌*◌, ◌<◌, ◌≤◌, Bool, true, false, ◌⊎◌, List, [], length, drop, Option}
 use mathlib.Core.Path.{refl, sym, ap, ◌∙◌}
 use mathlib.Core.Logic.{inl, inr}
 use native.Mathlib.Decide.{dec_lt}
@@ -24,8 +24,11 @@ use Rattle.rules.proofs.Accepted.{slot-good}
 use Rattle.rules.proofs.ImageLaws.{tuple-images}
 use Rattle.rules.proofs.OrderLaws.{in-turn}
 use Rattle.fates.specs.Fate.{Ordered}
-use Rattle.images.specs.declared.Image.{Image}
-use Rattle.images.specs.Tuples.{Lies, Stood, tuple_in, paged, Placed}
+use Rattle.change.specs.declared.Image.{Image}
+use Rattle.change.specs.declared.Source.{Source}
+use Rattle.change.specs.declared.Source.TheVariants.{Log, Page}
+use Rattle.change.specs.Tuples.{Lies, Stood, tuple_in}
+use Rattle.images.specs.Tuples.{paged, Placed}
 use Rattle.images.specs.Page.{Sound, Fitting}
 use Rattle.images.proofs.Deciding.{top-fits}
 use Rattle.recovery.specs.Spot.{shifted_by, nowhere_by, standing_in, Spotted}
@@ -34,16 +37,16 @@ use Rattle.rules.specs.Lent.{lent}
 
 -- ---- an image of a page, as one of the page area
 
-pub shifted-is : (a : ℕ) (m : Image) → m.logged ≡ false
-    → record { logged = false; place = m.place + a; length = m.length; stamped = m.stamped; by = m.by } ≡ shifted_by a m
+pub shifted-is : (a : ℕ) (m : Image) → m.source ≡ Page
+    → record { source = Page; place = m.place + a; length = m.length; deleted_by = m.deleted_by } ≡ shifted_by a m
 shifted-is a m e = rw e
 
 module _ {s pages t : List ℕ} (i : ℕ) (room : length (page_at i pages) ≡ page_bytes) (lent : i * page_bytes + page_bytes ≤ length pages) where
-  stood-as : (l : Bool) (p n : ℕ) (st : Bool) (by : TxnNumber) → let m : Image = record { logged = l; place = p; length = n; stamped = st; by = by } in
+  stood-as : (l : Source) (p n : ℕ) (by : Option TxnNumber) → let m : Image = record { source = l; place = p; length = n; deleted_by = by } in
       Stood s (page_at i pages) m t → Stood s pages (shifted_by (i * page_bytes) m) t
   unfolding tuple_in
-  stood-as true p n st by h = record { is = h.is; lies = record { within = h.lies.within; short = h.lies.short; headed = h.lies.headed }; long = h.long }
-  stood-as false p n st by h =
+  stood-as Log p n by h = record { is = h.is; lies = record { within = h.lies.within; short = h.lies.short; headed = h.lies.headed }; long = h.long }
+  stood-as Page p n by h =
       let w : p + n ≤ page_bytes = omega (arith, h.lies.within, room) in
       let x : i * page_bytes + p ≡ p + i * page_bytes = omega arith in
       let e : part p n (page_at i pages) ≡ part (p + i * page_bytes) n pages
@@ -51,19 +54,19 @@ module _ {s pages t : List ℕ} (i : ℕ) (room : length (page_at i pages) ≡ p
       record { is = rw (← e) h.is; lies = record { within = omega arith; short = h.lies.short; headed = h.lies.headed }; long = h.long }
 
   pub stood-shifted : {m : Image} → Stood s (page_at i pages) m t → Stood s pages (shifted_by (i * page_bytes) m) t
-  stood-shifted {m} h = stood-as m.logged m.place m.length m.stamped m.by h
+  stood-shifted {m} h = stood-as m.source m.place m.length m.deleted_by h
 
 module _ {s : List ℕ} (pages : List ℕ) (i k : ℕ) where
-  placed-as : (l : Bool) (p n : ℕ) (st : Bool) (by : TxnNumber) → let m : Image = record { logged = l; place = p; length = n; stamped = st; by = by } in
+  placed-as : (l : Source) (p n : ℕ) (by : Option TxnNumber) → let m : Image = record { source = l; place = p; length = n; deleted_by = by } in
       Placed s (page_at i pages) i k m → ((shifted_by (i * page_bytes) m).length ≡ 0 → ⊥) → standing_in (shifted_by (i * page_bytes) m) ≡ standing_of pages s i k
   unfolding standing_of
-  placed-as true p n st by h some = sym (h.won refl _)
-  placed-as false p n st by h some =
+  placed-as Log p n by h some = sym (h.won refl _)
+  placed-as Page p n by h some =
       let x : p + i * page_bytes ≡ i * page_bytes + (head_bytes + slot_off (body_of (page_at i pages)) k) = omega (arith, h.at refl some) in
       ap in_pages x ∙ sym (h.kept refl _)
 
   pub placed-shifted : {m : Image} → Placed s (page_at i pages) i k m → ((shifted_by (i * page_bytes) m).length ≡ 0 → ⊥) → standing_in (shifted_by (i * page_bytes) m) ≡ standing_of pages s i k
-  placed-shifted {m} h = placed-as m.logged m.place m.length m.stamped m.by h
+  placed-shifted {m} h = placed-as m.source m.place m.length m.deleted_by h
 
 -- ---- what recovery would leave in a slot is nothing or has a row header
 
@@ -90,7 +93,7 @@ module _ (magic floor : ℕ) (pages log : List ℕ) (i : ℕ) where
 -- ---- spots
 
 none-lies : (s p : List ℕ) → Lies s p (paged 0 0)
-none-lies s p = record { within = omega arith; short = omega arith; headed = λ e. false-true e }
+none-lies s p = record { within = omega arith; short = omega arith; headed = λ x e. cc }
 
 none-stood : (s p : List ℕ) → Stood s p (paged 0 0) []
 unfolding tuple_in
@@ -148,8 +151,8 @@ top-few {log} {pages} i f l =
 
 -- where an image of a page ends
 pub place-small : {s p : List ℕ} {m : Image} {t : List ℕ} → length s ≤ 16777216 → length p ≡ page_bytes → Stood s p m t → m.place ≤ 16777216
-place-small {s} {p} {m} small size h = go m.logged refl
+place-small {s} {p} {m} small size h = go m.source refl
   where
-    go : (b : Bool) → m.logged ≡ b → m.place ≤ 16777216
-    go true e = let w : m.place + m.length ≤ length s = rw e at h.lies.within in omega arith
-    go false e = let w : m.place + m.length ≤ length p = rw e at h.lies.within in omega arith
+    go : (b : Source) → m.source ≡ b → m.place ≤ 16777216
+    go Log e = let w : m.place + m.length ≤ length s = rw e at h.lies.within in omega arith
+    go Page e = let w : m.place + m.length ≤ length p = rw e at h.lies.within in omega arith

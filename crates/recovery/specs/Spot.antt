@@ -5,14 +5,22 @@ use Rattle.refusals.specs.Verdict.{verdict}
 use Rattle.rules.specs.Row.{row_verdict, tuple_of, Standing, in_log, in_pages, standing_of}
 use Rattle.rules.specs.declared.RowHead.{RowHead}
 use Rattle.rules.specs.declared.Located.{Located}
-use Rattle.images.specs.declared.Image.{Image}
-use Rattle.images.specs.Tuples.{Lies, Stood, paged}
+use Rattle.change.specs.declared.Image.{Image}
+use Rattle.change.specs.declared.Source.{Source}
+use Rattle.change.specs.declared.Source.TheVariants.{Log, Page}
+use Rattle.change.specs.Tuples.{Lies, Stood}
+use Rattle.images.specs.Tuples.{paged}
 use Rattle.recovery.specs.declared.Spot.{Spot}
 use Rattle.rules.specs.Lent.{lent}
 
+-- one of two, by a source
+abbrev pub by_source : {A : Type 0} → A → A → Source → A
+by_source a b Log = a
+by_source a b Page = b
+
 -- an image of a page that starts at place a of the page area, as an image of that area
 abbrev pub shifted_by : ℕ → Image → Image
-shifted_by a m = pick m.logged m (record { logged = false; place = m.place + a; length = m.length; stamped = m.stamped; by = m.by })
+shifted_by a m = by_source m (record { source = Page; place = m.place + a; length = m.length; deleted_by = m.deleted_by }) m.source
 
 -- a verdict without a tuple
 abbrev pub nowhere_by : ℕ → ℕ → Spot
@@ -25,7 +33,7 @@ filled_by xmin xmax deleted pad =
 
 -- where an image of the log or of the page area stands
 abbrev pub standing_in : Image → Standing
-standing_in m = pick m.logged (in_log m.place) (in_pages m.place)
+standing_in m = by_source (in_log m.place) (in_pages m.place) m.source
 
 -- the spot of slot k of page i: the verdict, and where the tuple that recovery would leave there stands; refused, no tuple
 pub record Spotted (magic floor : ℕ) (pages log : List ℕ) (i k : ℕ) (r : Spot) : Type 0 where
@@ -37,8 +45,8 @@ pub record Spotted (magic floor : ℕ) (pages log : List ℕ) (i k : ℕ) (r : S
   pub whole : (r.image.length ≡ 0) ⊎ (24 ≤ r.image.length)
 
 -- the payload of a tuple of n bytes at a place, located: source 1 is the log, 2 the page area, 0 none
-abbrev pub located_by : RowHead → Bool → ℕ → ℕ → Located
-located_by head logged place n =
+abbrev pub located_by : RowHead → Source → ℕ → ℕ → Located
+located_by head source place n =
     pick (n == 0)
     (record { head = head; source = 0; offset = 0; length = 0 })
-    (record { head = head; source = pick logged 1 2; offset = place + 24; length = n - 24 })
+    (record { head = head; source = by_source 1 2 source; offset = place + 24; length = n - 24 })

@@ -11,8 +11,8 @@ ghost use Rattle.table.specs.Flat.{stride, flat_after};
 ghost use Rattle.rules.specs.Row.{row_of, row_payload, located_of};
 ghost use Rattle.recovery.specs.Flat.{recover_flat};
 
+use change::Image;
 use endian::{Lsn, PageNumber};
-use images::Image;
 use order::Walked;
 use rules::{Answer, Located, Record, RowHead};
 use table::STRIDE;
@@ -25,7 +25,7 @@ mod judge;
 mod row;
 mod tableless;
 
-// The first refusal, or where the log ends; accepted, the counts of the answer.
+// Of an accepted log: where it ends and its last LSN, and the counts of the answer.
 #[derive(Clone, Copy)]
 pub struct Judged {
     pub walked: Walked,

@@ -1,17 +1,17 @@
 // Recovery but for its table: judged, counted, mended.
 ghost use Rattle.rules.specs.Lent.{lent};
 ghost use Rattle.std.specs.Prelude.{◌≡◌, []};
-ghost use Rattle.crc32c.specs.Tables.{Tables};
 ghost use Rattle.rules.specs.Order.{full_at};
 ghost use Rattle.rules.specs.Recover.{recover_verdict, recover_by, refused};
 ghost use Rattle.refusals.specs.Verdict.{verdict};
 ghost use Rattle.recovery.specs.Judgement.{answer_from};
 
 use crate::judge::judge;
+use cells::Scratch;
 use crc32c::inner::{Tables, tables};
+use decide::Changes;
 use endian::Lsn;
 use mend::inner::mend_all;
-use order::Walked;
 use page::PAGE_BYTES;
 use rules::Answer;
 use tally::Tally;
@@ -67,27 +67,21 @@ fn run(
     pages: &mut [u8],
     log: &[u8],
     records: u64,
-    starts: &mut [u32; 4097],
-    lasts: &mut [u32; 4096],
-    lists: &mut [u32; 4097],
-    fronts: &mut [u32; 4096],
-    space: &mut [u8; 655360],
+    s: &mut Scratch,
 ) -> Answer
-    requires { Tables t.now }
     ensures value { result ≡ (recover_by (recover_verdict (full_at records) (lent magic floor.0 pages.old log.now)) pages.old log.now []).answer }
     ensures pages_after { pages.new ≡ (recover_by (recover_verdict (full_at records) (lent magic floor.0 pages.old log.now)) pages.old log.now []).pages }
 {
-    let j = judge(
-        t, magic, floor, pages, log, true, records, starts, lasts, lists, fronts, space,
-    );
-    let w = j.walked;
-    if w.number != 0 {
-        return refused_by(w.number, w.place as u64);
-    }
+    let j = match judge(t, magic, floor, pages, log, Some(records), s) {
+        Ok(j) => j,
+        Err(e) => return refused_by(e.refusal.number(), e.place),
+    };
     let n = pages.len() / PAGE_BYTES;
-    let rewritten = mend_all(t, log, pages, n, starts, lasts, lists, fronts, space);
-    let ending = ending_at(log, w.place);
-    done_by(w.last, w.place, ending, j.tally, rewritten)
+    let changes = Changes { log, n, scratch: s };
+    let rewritten = mend_all(t, &changes, pages);
+    let w = j.walked;
+    let ending = ending_at(log, w.end).number();
+    done_by(w.last, w.end, ending, j.tally, rewritten)
 }
 
 // Recovery for a table of so many records, which is not written.
@@ -96,22 +90,12 @@ pub fn recover(magic: u64, floor: Lsn, pages: &mut [u8], log: &[u8], records: u6
     ensures pages_after { pages.new ≡ (recover_by (recover_verdict (full_at records) (lent magic floor.0 pages.old log.now)) pages.old log.now []).pages }
 {
     let t = tables();
-    let mut starts = [0u32; 4097];
-    let mut lasts = [0u32; 4096];
-    let mut lists = [0u32; 4097];
-    let mut fronts = [0u32; 4096];
-    let mut space = [0u8; 655360];
-    run(
-        &t,
-        magic,
-        floor,
-        pages,
-        log,
-        records,
-        &mut starts,
-        &mut lasts,
-        &mut lists,
-        &mut fronts,
-        &mut space,
-    )
+    let mut s = Scratch {
+        starts: [0u32; 4097],
+        lasts: [0u32; 4096],
+        lists: [0u32; 4097],
+        fronts: [0u32; 4096],
+        space: [0u8; 655360],
+    };
+    run(&t, magic, floor, pages, log, records, &mut s)
 }

@@ -1,5 +1,7 @@
 -- The refusals by number (paper 01, Numbers given back; from 17 on paper 02): one list, the same as in src/lib.rt and include/lumbraquay.h.
 use Rattle.std.specs.Prelude.{ℕ}
+use Rattle.refusals.specs.declared.Refusal.{Refusal}
+use Rattle.refusals.specs.declared.Refusal.TheVariants.{PageArea, LogTooLong, LogHeader, EntryDamaged, EntryType, EntryShape, LsnOrder, TransactionOrder, Clash, NoRecord, PageMagicOrType, PageLsn, NoDataPage, PageOverfull, NoSuchPage, MapShort, PageId, PageChecksum, PageSlots, DoublewriteHeader, DoublewriteChecksum, DoublewriteMark, DoublewritePages, DoublewriteShort, SummaryArea, SummaryEndsEarly, SummarySpelling, SummaryEdition, SummaryRange, SummaryOrder, SummaryLeftOver, TableRowEndsEarly, TableRowForm, TableRowLayout, TableRowNoRoom, TableRowNewer, PageAreasDiffer}
 
 -- page bytes no multiple of a page's, or too many pages
 abbrev pub page_area : ℕ
@@ -148,3 +150,43 @@ table_row_newer = 38
 -- page areas before and after a repair that differ in length
 abbrev pub page_areas_differ : ℕ
 page_areas_differ = 39
+
+-- the number of a refusal
+abbrev pub number_of : Refusal → ℕ
+number_of PageArea = page_area
+number_of LogTooLong = log_too_long
+number_of LogHeader = log_header
+number_of EntryDamaged = entry_damaged
+number_of EntryType = entry_type
+number_of EntryShape = entry_shape
+number_of LsnOrder = lsn_order
+number_of TransactionOrder = transaction_order
+number_of Clash = clash
+number_of NoRecord = no_record
+number_of PageMagicOrType = page_magic_or_type
+number_of PageLsn = page_lsn
+number_of NoDataPage = no_data_page
+number_of PageOverfull = page_overfull
+number_of NoSuchPage = no_such_page
+number_of MapShort = map_short
+number_of PageId = page_id
+number_of PageChecksum = page_checksum
+number_of PageSlots = page_slots
+number_of DoublewriteHeader = doublewrite_header
+number_of DoublewriteChecksum = doublewrite_checksum
+number_of DoublewriteMark = doublewrite_mark
+number_of DoublewritePages = doublewrite_pages
+number_of DoublewriteShort = doublewrite_short
+number_of SummaryArea = summary_area
+number_of SummaryEndsEarly = summary_ends_early
+number_of SummarySpelling = summary_spelling
+number_of SummaryEdition = summary_edition
+number_of SummaryRange = summary_range
+number_of SummaryOrder = summary_order
+number_of SummaryLeftOver = summary_left_over
+number_of TableRowEndsEarly = table_row_ends_early
+number_of TableRowForm = table_row_form
+number_of TableRowLayout = table_row_layout
+number_of TableRowNoRoom = table_row_no_room
+number_of TableRowNewer = table_row_newer
+number_of PageAreasDiffer = page_areas_differ

@@ -1,90 +1,119 @@
-// The refusals by name: one list, the same as in specs/Refusal.antt and include/lumbraquay.h. docs/API.md says when each is given.
+// The refusals: one list, with their numbers as in specs/Refusal.antt and include/lumbraquay.h. docs/API.md says when each is given.
 #![tactic(auto)]
 
-pub const PAGE_AREA: u64 = 1;
+ghost use Rattle.std.specs.Prelude.{◌≡◌};
+ghost use Rattle.refusals.specs.Refusal.{number_of};
 
-pub const LOG_TOO_LONG: u64 = 2;
+// Why something lent is refused.
+#[derive(Clone, Copy, PartialEq, Eq)]
+pub enum Refusal {
+    PageArea,
+    LogTooLong,
+    LogHeader,
+    EntryDamaged,
+    EntryType,
+    EntryShape,
+    LsnOrder,
+    TransactionOrder,
+    Clash,
+    NoRecord,
+    PageMagicOrType,
+    PageLsn,
+    NoDataPage,
+    PageOverfull,
+    NoSuchPage,
+    MapShort,
+    PageId,
+    PageChecksum,
+    PageSlots,
+    DoublewriteHeader,
+    DoublewriteChecksum,
+    DoublewriteMark,
+    DoublewritePages,
+    DoublewriteShort,
+    SummaryArea,
+    SummaryEndsEarly,
+    SummarySpelling,
+    SummaryEdition,
+    SummaryRange,
+    SummaryOrder,
+    SummaryLeftOver,
+    TableRowEndsEarly,
+    TableRowForm,
+    TableRowLayout,
+    TableRowNoRoom,
+    TableRowNewer,
+    PageAreasDiffer,
+}
 
-pub const LOG_HEADER: u64 = 3;
+impl Refusal {
+    // Its number.
+    pub fn number(self) -> u64
+        ensures { result ≡ number_of self }
+    {
+        match self {
+            Refusal::PageArea => 1,
+            Refusal::LogTooLong => 2,
+            Refusal::LogHeader => 3,
+            Refusal::EntryDamaged => 4,
+            Refusal::EntryType => 5,
+            Refusal::EntryShape => 6,
+            Refusal::LsnOrder => 7,
+            Refusal::TransactionOrder => 8,
+            Refusal::Clash => 9,
+            Refusal::NoRecord => 10,
+            Refusal::PageMagicOrType => 11,
+            Refusal::PageLsn => 12,
+            Refusal::NoDataPage => 13,
+            Refusal::PageOverfull => 14,
+            Refusal::NoSuchPage => 15,
+            Refusal::MapShort => 16,
+            Refusal::PageId => 17,
+            Refusal::PageChecksum => 18,
+            Refusal::PageSlots => 19,
+            Refusal::DoublewriteHeader => 22,
+            Refusal::DoublewriteChecksum => 23,
+            Refusal::DoublewriteMark => 24,
+            Refusal::DoublewritePages => 25,
+            Refusal::DoublewriteShort => 26,
+            Refusal::SummaryArea => 27,
+            Refusal::SummaryEndsEarly => 28,
+            Refusal::SummarySpelling => 29,
+            Refusal::SummaryEdition => 30,
+            Refusal::SummaryRange => 31,
+            Refusal::SummaryOrder => 32,
+            Refusal::SummaryLeftOver => 33,
+            Refusal::TableRowEndsEarly => 34,
+            Refusal::TableRowForm => 35,
+            Refusal::TableRowLayout => 36,
+            Refusal::TableRowNoRoom => 37,
+            Refusal::TableRowNewer => 38,
+            Refusal::PageAreasDiffer => 39,
+        }
+    }
 
-pub const ENTRY_DAMAGED: u64 = 4;
+    // This refusal, of what stands at a place.
+    pub fn at(self, place: usize) -> Refused
+        ensures why { result.refusal ≡ self }
+        ensures place { result.place ≡ place }
+    {
+        Refused {
+            refusal: self,
+            place: place as u64,
+        }
+    }
+}
 
-pub const ENTRY_TYPE: u64 = 5;
-
-pub const ENTRY_SHAPE: u64 = 6;
-
-pub const LSN_ORDER: u64 = 7;
-
-pub const TRANSACTION_ORDER: u64 = 8;
-
-pub const CLASH: u64 = 9;
-
-pub const NO_RECORD: u64 = 10;
-
-pub const PAGE_MAGIC_OR_TYPE: u64 = 11;
-
-pub const PAGE_LSN: u64 = 12;
-
-pub const NO_DATA_PAGE: u64 = 13;
-
-pub const PAGE_OVERFULL: u64 = 14;
-
-pub const NO_SUCH_PAGE: u64 = 15;
-
-pub const MAP_SHORT: u64 = 16;
-
-pub const PAGE_ID: u64 = 17;
-
-pub const PAGE_CHECKSUM: u64 = 18;
-
-pub const PAGE_SLOTS: u64 = 19;
-
-pub const DOUBLEWRITE_HEADER: u64 = 22;
-
-pub const DOUBLEWRITE_CHECKSUM: u64 = 23;
-
-pub const DOUBLEWRITE_MARK: u64 = 24;
-
-pub const DOUBLEWRITE_PAGES: u64 = 25;
-
-pub const DOUBLEWRITE_SHORT: u64 = 26;
-
-pub const SUMMARY_AREA: u64 = 27;
-
-pub const SUMMARY_ENDS_EARLY: u64 = 28;
-
-pub const SUMMARY_SPELLING: u64 = 29;
-
-pub const SUMMARY_EDITION: u64 = 30;
-
-pub const SUMMARY_RANGE: u64 = 31;
-
-pub const SUMMARY_ORDER: u64 = 32;
-
-pub const SUMMARY_LEFT_OVER: u64 = 33;
-
-pub const TABLE_ROW_ENDS_EARLY: u64 = 34;
-
-pub const TABLE_ROW_FORM: u64 = 35;
-
-pub const TABLE_ROW_LAYOUT: u64 = 36;
-
-pub const TABLE_ROW_NO_ROOM: u64 = 37;
-
-pub const TABLE_ROW_NEWER: u64 = 38;
-
-pub const PAGE_AREAS_DIFFER: u64 = 39;
+// Why something lent is refused, and where: a place that docs/API.md tells for each refusal, or 0.
+#[derive(Clone, Copy, PartialEq, Eq)]
+pub struct Refused {
+    pub refusal: Refusal,
+    pub place: u64,
+}
 
 // A refusal's number and place; number 0 is none.
 #[derive(Clone, Copy)]
 pub struct Verdict {
     pub number: u64,
     pub place: u64,
-}
-
-// What a writer answers: a refusal and 0, or 0 and the length written.
-#[derive(Clone, Copy)]
-pub struct Written {
-    pub verdict: Verdict,
-    pub length: usize,
 }

@@ -1,6 +1,6 @@
 -- Whether a page has room, and the lowest page that has none. Assumes nothing.
 use Prim.Native.Nat.{ℕ, suc, ◌+◌, ◌*◌, ◌-◌, ◌≤◌, ◌<◌}
-use mathlib.Core.Path.{◌≡◌}
+use mathlib.Core.Path.{◌≡◌, ap₂}
 use mathlib.Core.Bool.{Bool, true, false}
 use mathlib.Core.List.{List}
 use native.Mathlib.Decide.{dec_lt}
@@ -8,13 +8,15 @@ use native.Mathlib.Numerals.{add-one}
 use native.Mathlib.Omega.{arith}
 use lib.ListN.{take, drop}
 use lib.Dec.{ltb}
-use borrow.Author.Tests.{lt-ltb, le-ltb}
-use Rattle.endian.specs.Pick.{pick}
+use borrow.Author.Tests.{lt-ltb}
 use Rattle.wal.specs.Entry.{Entry}
 use Rattle.page.specs.Layout.{body_bytes, page_at}
 use Rattle.page.specs.Packed.{room_for}
-use Rattle.refusals.specs.Verdict.{verdict, accepted}
-use Rattle.refusals.specs.declared.Verdict.{Verdict}
+use Rattle.refusals.specs.Refusal.{number_of}
+use Rattle.refusals.specs.Verdict.{verdict, accepted, told_by}
+use Rattle.refusals.specs.declared.Refusal.{Refusal}
+use Rattle.refusals.specs.declared.Refusal.TheVariants.{PageOverfull}
+use Rattle.refusals.specs.declared.Refused.{Refused}
 use Rattle.page.proofs.Verdicts.{page-part}
 use Rattle.rules.specs.Mend.{committed, top_of, slots_for}
 use Rattle.rules.specs.Recover.{is_tight, tight_from}
@@ -73,9 +75,6 @@ module _ (es : List Entry) (pages : List ℕ) (n i : ℕ) where
   pub tight-start : tight_from es pages (n - 0) i ≡ tight_from es pages n i
   tight-start = let z : n - 0 ≡ n = omega arith in rw z
 
--- the answer of a search for a page before n
-pub found : {v : Verdict} (w : Verdict) (r n : ℕ) → r < n → v ≡ verdict 14 r → v ≡ pick (ltb r n) (verdict 14 r) w
-found w r n h e = rw (lt-ltb r n h) e
-
-pub not_found : {v w : Verdict} (n : ℕ) → v ≡ w → v ≡ pick (ltb n n) (verdict 14 n) w
-not_found n e = rw (le-ltb n n (omega arith)) e
+-- the refusal of page i
+pub refused-at : (e : Refused) {i : ℕ} → e.refusal ≡ PageOverfull → e.place ≡ i → told_by e ≡ verdict 14 i
+refused-at e a b = ap₂ (λ (r : Refusal) (p : ℕ). verdict (number_of r) p) a b

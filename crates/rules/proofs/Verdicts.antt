@@ -18,7 +18,7 @@ use Rattle.page.specs.Packed.{room_for}
 use Rattle.refusals.specs.Verdict.{verdict, accepted}
 use Rattle.page.specs.Fault.{fault_of, late_at, page_verdict, first_bad, size_wrong}
 use Rattle.refusals.specs.declared.Verdict.{Verdict}
-use Rattle.page.specs.declared.Fault.TheVariants.{Sound}
+use Rattle.std.specs.Prelude.{None}
 use Rattle.page.proofs.Verdicts.{page-fine, fine-page}
 use Rattle.refusals.proofs.Then.{then-zero, zero-then}
 use Rattle.rules.specs.Shape.{both, either, is_change, page_of, slot_of, is_on, top_on}
@@ -49,7 +49,7 @@ log-undamaged full s h d =
 
 -- page i has no fault and passes 12
 pub record Sane (magic floor last : ℕ) (s : List ℕ) (i : ℕ) : Type 0 where
-  pub sound : fault_of magic i (page_at i s) ≡ Sound
+  pub sound : fault_of magic i (page_at i s) ≡ None
   pub lsn_known : lsn_of (page_at i s) ≤ max floor last
 
 module _ (magic floor last : ℕ) (s : List ℕ) where

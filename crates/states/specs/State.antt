@@ -3,6 +3,14 @@ use Rattle.std.specs.Prelude.{ℕ, zero, List, [], ◌∷◌, Bool, true, eqb}
 use Rattle.endian.specs.Pick.{pick}
 use Rattle.wal.specs.Entry.{Entry, begin, commit, rollback, checkpoint}
 use Rattle.rules.specs.Shape.{either, is_changing}
+use Rattle.states.specs.declared.inner.State.{State}
+use Rattle.states.specs.declared.inner.State.TheVariants.{Unseen, Open, Ended}
+
+-- the number of a state
+abbrev pub state_number : State → ℕ
+state_number Unseen = 0
+state_number Open = 1
+state_number Ended = 2
 
 -- what the newest entry of a transaction says: it has ended (2) or not (1)
 unfoldable pub state_after : ℕ → ℕ

@@ -6,15 +6,17 @@ use mathlib.Core.Bool.{Bool, true, false}
 use Prim.Native.Nat.{ℕ, zero, suc, ◌^◌, ◌≤◌, ◌<◌}
 use native.Mathlib.Omega.{arith}
 use mathlib.Core.List.{List, [], ◌∷◌, ◌++◌, map, append_assoc}
-use lib.ListN.{length, take, drop, get_or, length-drop, length-map, drop_of_length-le, get_or-eq_default}
+use lib.ListN.{length, take, drop, get_or, length-drop, length-map, drop_of_length-le}
 use lib.Seq.{drop-drop, drop_at, take_at}
 use lib.Dec.{ltb, eqb}
 use borrow.Author.Tests.{le-ltb, ltb-false, eqb-true, eq-eqb}
+use Rattle.std.specs.Prelude.{Some, None, Ok, slice_get}
+use Rattle.std.proofs.lemmas.Option.{slice_get-get_or, slice_get_past}
 use Rattle.endian.specs.Pick.{pick}
 use Rattle.endian.specs.Numbers.{Bytes}
 use Rattle.endian.proofs.Bytes.{bytes_drop}
 use Rattle.refusals.specs.Verdict.{verdict, accepted}
-use Rattle.refusals.proofs.Then.{then-accepted, then-zero}
+use Rattle.refusals.proofs.Then.{then-zero}
 use Rattle.page.specs.Layout.{page_limit, slot_limit, row_head, longest_tuple, pages_in}
 use Rattle.page.specs.Fault.{verdict_of}
 use Rattle.page.specs.Rows.{visible, visible_rows}
@@ -27,6 +29,7 @@ use Rattle.page.proofs.Verdicts.{accepted-size}
 use Rattle.summary.specs.Number.{groups, spelling, value_of, value_at, after_at, refusal_at, any_number}
 use Rattle.summary.specs.Summary.{edition, head_of, row_bytes, rows_bytes, file_of, shortened, summary_rows, summary_file, write_verdict, summary_written, summary_after, edition_rule, page_rule, slot_rule, length_rule, number_verdict, second, third, behind, three_verdict, head_verdict, row_verdict, rows_verdict, file_verdict, lsn_of, count_of, row_at, rows_from, rows_of, no_row, step_of, step_rows}
 use Rattle.summary.specs.declared.SummaryRow.{SummaryRow}
+use Rattle.summary.proofs.Answered.{answered-ok}
 use Rattle.summary.proofs.Spelling.{spelling-split, well-spelt, spelling-back, value-back, whole_back, well-back}
 use Rattle.summary.proofs.Places.{Reads, reads-refusal, zero-reads}
 use Rattle.summary.proofs.RowBytes.{few-rows}
@@ -170,24 +173,6 @@ module _ (f : List ℕ) (ok : (file_verdict f).number ≡ 0) where
   unfolding file_verdict count_of
   rows_ok = (then-zero (head_verdict f) _ ok).1
 
--- a verdict that does not refuse is the one that accepts
-rows-accepted : (n i k : ℕ) (f : List ℕ) (p : ℕ) → (rows_verdict n i k f p).number ≡ 0 → rows_verdict n i k f p ≡ accepted
-unfolding rows_verdict
-rows-accepted zero i k f p z = by-test (ltb p (length f)) z
-  where
-    by-test : (t : Bool) → (pick t (verdict 33 p) accepted).number ≡ 0 → pick t (verdict 33 p) accepted ≡ accepted
-    by-test true q = absurd (omega arith)
-    by-test false q = refl
-rows-accepted (suc n) i k f p z =
-    let a = then-zero (row_verdict i k f p) _ z in
-    then-accepted (row_verdict i k f p) _ a.0 ∙ rows-accepted n (value_at f p) (suc (value_at f (second f p))) f (behind f p) a.1
-
-pub file-accepted : (f : List ℕ) → (file_verdict f).number ≡ 0 → file_verdict f ≡ accepted
-unfolding file_verdict
-file-accepted f z =
-    let a = then-zero (head_verdict f) _ z in
-    then-accepted (head_verdict f) _ a.0 ∙ rows-accepted (value_at f (third f 0)) 0 0 f (behind f 0) a.1
-
 -- a file that is not refused is the file of what it says
 pub the-file : (f : List ℕ) → Bytes f → (file_verdict f).number ≡ 0 → f ≡ file_of (lsn_of f) (rows_of f)
 unfolding file_of head_of lsn_of rows_of count_of
@@ -239,14 +224,17 @@ written_back magic s lsn z l =
     (rows-kept s 0 0 (visible_rows s) n (rows-stand visible (empty true) s d) (rising-pages visible s (pages_in s) 0))
 
 -- the first bytes of the area, as many as the writer says, are the file, and it reads back
-module _ (magic : ℕ) (s : List ℕ) (lsn : ℕ) (area : List ℕ) (z : (summary_written magic s lsn area).verdict.number ≡ 0) where
-  pub written-front : take (summary_written magic s lsn area).length (summary_after magic s lsn area) ≡ summary_file s lsn
-  unfolding summary_written summary_after
-  written-front = rw (eq-eqb (write_verdict magic s lsn area).number 0 z) (take_at (summary_file s lsn) (drop (length (summary_file s lsn)) area) (length (summary_file s lsn)) refl)
+module _ (magic : ℕ) (s : List ℕ) (lsn : ℕ) (area : List ℕ) (n : ℕ) (is : Ok n ≡ summary_written magic s lsn area) where
+  written : ((write_verdict magic s lsn area).number ≡ 0) × (n ≡ length (summary_file s lsn))
+  written = answered-ok (write_verdict magic s lsn area) (length (summary_file s lsn)) n is
 
-  pub read-after-write : lsn < 2 ^ 64 → Back (take (summary_written magic s lsn area).length (summary_after magic s lsn area)) lsn (summary_rows s)
-  unfolding summary_written write_verdict
-  read-after-write l = rw written-front (written_back magic s lsn (then-zero (verdict_of magic s) _ z).0 l)
+  pub written-front : take n (summary_after magic s lsn area) ≡ summary_file s lsn
+  unfolding summary_after
+  written-front = rw (written.1, eq-eqb (write_verdict magic s lsn area).number 0 written.0) (take_at (summary_file s lsn) (drop (length (summary_file s lsn)) area) (length (summary_file s lsn)) refl)
+
+  pub read-after-write : lsn < 2 ^ 64 → Back (take n (summary_after magic s lsn area)) lsn (summary_rows s)
+  unfolding write_verdict
+  read-after-write l = rw written-front (written_back magic s lsn (then-zero (verdict_of magic s) _ written.0).0 l)
 
 -- ---- steps
 
@@ -278,9 +266,12 @@ step-early zero (suc c) f p l = refl
 step-early (suc n) (suc c) f p l = step-early n c f (step_of f p).after (omega arith)
 
 module _ (f : List ℕ) (z : (file_verdict f).number ≡ 0) (n : ℕ) where
-  pub row-there : n < count_of f → get_or (step_rows (suc n) f (behind f 0)) n no_row ≡ get_or (rows_of f) n no_row
-  row-there l = step-early n (count_of f) f (behind f 0) l ∙ ap (λ (rs : List SummaryRow). get_or rs n no_row) (steps-give-rows f z)
-
-  pub row-past : count_of f ≤ n → get_or (rows_of f) n no_row ≡ no_row
+  pub row-there : n < count_of f → slice_get (rows_of f) n ≡ Some (get_or (step_rows (suc n) f (behind f 0)) n no_row)
   unfolding rows_of
-  row-past l = get_or-eq_default (rows_from (count_of f) f (behind f 0)) no_row (omega (arith, length-rows (count_of f) f (behind f 0)))
+  row-there l =
+      let e = step-early n (count_of f) f (behind f 0) l ∙ ap (λ (rs : List SummaryRow). get_or rs n no_row) (steps-give-rows f z) in
+      rw e (slice_get-get_or (rows_of f) n no_row (omega (arith, length-rows (count_of f) f (behind f 0))))
+
+  pub row-past : count_of f ≤ n → slice_get (rows_of f) n ≡ None
+  unfolding rows_of
+  row-past l = slice_get_past (rows_from (count_of f) f (behind f 0)) n (omega (arith, length-rows (count_of f) f (behind f 0)))

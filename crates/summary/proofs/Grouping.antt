@@ -3,10 +3,11 @@
 use mathlib.Core.Path.{◌≡◌, refl, sym, ap, ◌∙◌}
 use Prim.Native.Nat.{ℕ, zero, suc, ◌+◌, ◌*◌, ◌/◌, ◌%◌, ◌^◌, ◌≤◌, ◌<◌}
 use native.Mathlib.Decide.{dec_le}
-use native.Mathlib.Nat.{pow-suc}
+use native.Mathlib.Nat.{pow-suc, pow-le-pow_right}
 use native.Mathlib.Omega.{arith}
 use mathlib.Core.List.{List, [], ◌∷◌, ◌++◌}
 use lib.ListN.{length, set, length-append}
+use lib.Pow.{pow-add}
 use lib.Seq.{paste, paste-zero, sets-eq, length-paste}
 use borrow.Author.Tests.{lt-ltb, le-ltb}
 use Rattle.endian.proofs.Places.{paste-two}
@@ -52,6 +53,32 @@ groups-some n =
       | yes m ↦ rw (groups-more n m) (omega arith)
       | no m ↦ rw (groups-last n (omega arith)) (omega arith)
     ]
+
+pub groups-many : (w n : ℕ) → 128 ^ w ≤ n → suc w ≤ length (groups n)
+groups-many zero n h = groups-some n
+groups-many (suc w) n h =
+    let k : 128 ^ w * 128 ≤ n = rw pow-suc at h in
+    let z : 0 ≤ w = omega arith in
+    let l : 128 ^ 0 ≤ 128 ^ w = pow-le-pow_right (omega arith) z in
+    rw (groups-more n (omega arith)) (omega (arith, groups-many w (n / 128) (omega arith)))
+
+seven : (q : ℕ) → 128 ^ q ≡ 2 ^ (7 * q)
+seven zero = refl
+seven (suc q) =
+    let e : 7 * suc q ≡ 7 * q + 7 = omega arith in
+    rw (pow-suc, e, pow-add 2 (7 * q) 7, seven q) refl
+
+-- a group for every seven bits
+pub groups-bits : (n b : ℕ) → 2 ^ b ≤ n → n < 2 * 2 ^ b → b / 7 + 1 ≡ length (groups n)
+groups-bits n b l m =
+    let q : ℕ = b / 7 in
+    let under : 7 * q ≤ b = omega arith in
+    let over : suc b ≤ 7 * suc q = omega arith in
+    let low : 2 ^ (7 * q) ≤ 2 ^ b = pow-le-pow_right (omega arith) under in
+    let high : 2 ^ suc b ≤ 2 ^ (7 * suc q) = pow-le-pow_right (omega arith) over in
+    let few : n < 128 ^ suc q = omega (arith, seven (suc q), pow-suc 2 b) in
+    let many : 128 ^ q ≤ n = omega (arith, seven q) in
+    omega (arith, groups-few q n few, groups-many q n many)
 
 -- of a number of 64 bits ten at most
 pub groups-ten : (n : ℕ) → n < 2 ^ 64 → length (groups n) ≤ 10

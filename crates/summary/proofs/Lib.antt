@@ -1,9 +1,11 @@
 pub mod Grouping
 pub mod Spelling
+pub mod Answered
 pub mod Places
 pub mod Threes
 pub mod RuleLaws
 pub mod RowBytes
 pub mod FileLaws
-pub mod Answers
+pub mod RowLaws
 pub mod Example
+pub mod WriteLaws

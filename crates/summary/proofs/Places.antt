@@ -4,35 +4,77 @@ use mathlib.Core.Path.{◌≡◌, refl, sym, ap, ◌∙◌}
 use mathlib.Core.Logic.{◌⊎◌, inl, inr}
 use mathlib.Core.Bool.{Bool, true, false}
 use Prim.Native.Nat.{ℕ, zero, suc, ◌+◌, ◌*◌, ◌-◌, ◌%◌, ◌^◌, ◌≤◌, ◌<◌}
+use native.Mathlib.Decide.{dec_le}
 use native.Mathlib.Numerals.{add-one}
 use native.Mathlib.Omega.{arith}
 use mathlib.Core.List.{List, [], ◌∷◌}
 use lib.ListN.{length, take, drop, get_or, length-drop}
 use lib.Seq.{drop-cons, get_or-drop}
 use lib.Dec.{ltb, leb, eqb}
-use borrow.Author.Tests.{le-leb, lt-leb, eq-eqb, ne_eqb, eqb-true, leb-false}
+use borrow.Author.Tests.{le-leb, lt-leb, ne_eqb, eqb-true, leb-false}
 use Rattle.endian.specs.Pick.{pick}
 use Rattle.endian.specs.Numbers.{part, Bytes}
 use Rattle.endian.proofs.Bytes.{bytes_drop}
 use Rattle.endian.proofs.Places.{drop-part}
-use Rattle.refusals.specs.Verdict.{verdict, accepted}
+use Rattle.std.specs.Prelude.{Option, Some, None, Ok, Err}
+use Rattle.refusals.specs.Refusal.{number_of}
+use Rattle.refusals.specs.Verdict.{verdict, accepted, told_by}
+use Rattle.refusals.specs.declared.Refused.{Refused}
+use Rattle.refusals.specs.declared.Verdict.{Verdict}
 use Rattle.summary.specs.Number.{continued, spelling, value_of, value_at, after_at, ends_early, misspelt, refusal_at, any_number}
 use Rattle.summary.specs.Summary.{number_verdict}
 use Rattle.summary.specs.declared.Number.{Number}
-use Rattle.summary.specs.Inner.{Ends, number_at}
-use Rattle.summary.proofs.Spelling.{top_of, Whole, last-here, goes_on, continued-le, length-spelling, spelt-one, spelt-zero, spelt-nine, spelt-over, spelt-ten, well-spelt}
+use Rattle.summary.specs.Inner.{end_of, Ends, number_at}
+use Rattle.summary.proofs.Answered.{answered-ok, answered-err, refused-at}
+use Rattle.summary.proofs.Spelling.{top_of, Whole, last-here, goes_on, length-spelling, spelt-one, spelt-zero, spelt-nine, spelt-over, spelt-ten, well-spelt}
 
 -- ---- the search for the last group
 
+leb-suc : (a b : ℕ) → leb (suc a) (suc b) ≡ leb a b
+leb-suc a b =
+    elim (dec_le a b) [
+      | yes l ↦ rw (le-leb a b l) (le-leb (suc a) (suc b) (omega arith))
+      | no l ↦ rw (lt-leb a b (omega arith)) (lt-leb (suc a) (suc b) (omega arith))
+    ]
+
 module _ (f : List ℕ) (p : ℕ) where
-  pub group-last : p < length f → get_or f p 0 < 128 → continued (drop p f) ≡ 0
-  group-last l h = rw (drop-cons f p 0) (last-here (get_or f p 0) (drop (suc p) f) h)
+  pub end-here : p < length f → get_or f p 0 < 128 → end_of f p ≡ Some p
+  unfolding ends_early
+  end-here l h =
+      let c : continued (drop p f) ≡ 0 = rw (drop-cons f p 0) (last-here (get_or f p 0) (drop (suc p) f) h) in
+      let z : p + 0 ≡ p = omega arith in
+      rw (c, length-drop p f, lt-leb (length f - p) 0 (omega arith), z)
 
-  pub group-more : p < length f → 128 ≤ get_or f p 0 → continued (drop p f) ≡ suc (continued (drop (p + 1) f))
-  group-more l h = rw (add-one, drop-cons f p 0) (goes_on (get_or f p 0) (drop (suc p) f) h)
+  pub end-more : p < length f → 128 ≤ get_or f p 0 → end_of f p ≡ end_of f (p + 1)
+  unfolding ends_early
+  end-more l h =
+      let c : continued (drop p f) ≡ suc (continued (drop (p + 1) f)) = rw (add-one, drop-cons f p 0) (goes_on (get_or f p 0) (drop (suc p) f) h) in
+      let m : length (drop p f) ≡ suc (length (drop (p + 1) f)) = simp length-drop (omega arith) in
+      let n : p + suc (continued (drop (p + 1) f)) ≡ p + 1 + continued (drop (p + 1) f) = omega arith in
+      rw (c, m, n, leb-suc (length (drop (p + 1) f)) (continued (drop (p + 1) f)))
 
-  pub group-none : length f ≤ p → continued (drop p f) ≡ 0
-  group-none l = omega (arith, continued-le (drop p f), length-drop p f)
+  pub end-none : length f ≤ p → end_of f p ≡ None
+  unfolding ends_early
+  end-none l = rw (le-leb (length (drop p f)) (continued (drop p f)) (simp length-drop (omega arith)))
+
+  -- found, or not
+  pub end-found : (end : ℕ) → Some end ≡ end_of f p → Ends f p end
+  unfolding ends_early
+  end-found end e = by-test (leb (length (drop p f)) (continued (drop p f))) refl e
+    where
+      by-test : (t : Bool) → leb (length (drop p f)) (continued (drop p f)) ≡ t → ◌≡◌ {A = Option ℕ} (Some end) (pick t None (Some (p + continued (drop p f)))) → Ends f p end
+      by-test true q k = absurd (cc)
+      by-test false q k =
+          let w : continued (drop p f) < length (drop p f) = leb-false (length (drop p f)) (continued (drop p f)) q in
+          let i : end ≡ p + continued (drop p f) = cc in
+          record { at = i; within = omega (arith, simp length-drop at w) }
+
+  pub end-missed : None ≡ end_of f p → ends_early (drop p f) ≡ true
+  end-missed e = by-test (ends_early (drop p f)) e
+    where
+      by-test : (t : Bool) → ◌≡◌ {A = Option ℕ} None (pick t None (Some (p + continued (drop p f)))) → t ≡ true
+      by-test true k = refl
+      by-test false k = absurd (cc)
 
 -- ---- a number whose last group stands at `end`
 
@@ -144,75 +186,77 @@ module _ (f : List ℕ) (p : ℕ) where
 
 -- a number that reads, and the place after it
 abbrev pub taken : ℕ → ℕ → Number
-taken v q = record { refusal = 0; value = v; after = q }
-
--- one that is refused
-abbrev pub refused_by : ℕ → ℕ → Number
-refused_by k p = record { refusal = k; value = 0; after = p }
+taken v q = record { value = v; after = q }
 
 module _ (f : List ℕ) (p : ℕ) where
-  pub read-early : (end : ℕ) → end ≡ p + continued (drop p f) → length f ≤ end → refused_by 28 p ≡ number_at any_number f p
-  unfolding number_at refusal_at ends_early
-  read-early end e l = sym (rw (le-leb (length (drop p f)) (continued (drop p f)) (simp length-drop (omega arith))))
+  pub read-early : None ≡ end_of f p → Err (verdict 28 p) ≡ number_at any_number f p
+  unfolding number_verdict refusal_at
+  read-early e = sym (rw (end-missed f p e))
 
   module _ (end : ℕ) (y : Bytes f) (e : Ends f p end) where
-    pub read-misspelt : misspelt (spelling (drop p f)) ≡ true → refused_by 29 p ≡ number_at any_number f p
-    unfolding number_at refusal_at
+    pub read-misspelt : misspelt (spelling (drop p f)) ≡ true → Err (verdict 29 p) ≡ number_at any_number f p
+    unfolding number_verdict refusal_at
     read-misspelt m = sym (rw (whole-early f p (ends-whole f p end e), m))
 
     pub value-fits : misspelt (spelling (drop p f)) ≡ false → value_at f p < 2 ^ 64
     unfolding value_at
     value-fits m = (well-spelt (drop p f) (bytes_drop p y) (ends-whole f p end e) m).1
 
-    pub read-well : misspelt (spelling (drop p f)) ≡ false → taken (value_at f p) (end + 1) ≡ number_at any_number f p
-    unfolding number_at
+    pub read-well : misspelt (spelling (drop p f)) ≡ false → Ok (taken (value_at f p) (end + 1)) ≡ number_at any_number f p
+    unfolding number_verdict
     read-well m =
         let z : refusal_at any_number f p ≡ 0 = reads-refusal f p any_number (record { whole = ends-whole f p end e; well = m }) in
         sym (rw (z, after-end f p end e))
 
--- a number as it was read under a rule
-module _ (rule : ℕ → ℕ) (f : List ℕ) (p : ℕ) (n : Number) (is : n ≡ number_at rule f p) where
-  refusal_is : n.refusal ≡ refusal_at rule f p
-  unfolding number_at
-  refusal_is = ap (λ (m : Number). m.refusal) is ∙ by-test (eqb (refusal_at rule f p) 0) refl
+-- a number that was read under a rule
+module _ (rule : ℕ → ℕ) (f : List ℕ) (p : ℕ) where
+  verdict-zero : (number_verdict rule f p).number ≡ 0 → refusal_at rule f p ≡ 0
+  unfolding number_verdict
+  verdict-zero z = by-test (eqb (refusal_at rule f p) 0) refl z
     where
-      by-test : (t : Bool) → eqb (refusal_at rule f p) 0 ≡ t
-          → (pick t (taken (value_at f p) (after_at f p)) (refused_by (refusal_at rule f p) p)).refusal ≡ refusal_at rule f p
-      by-test true e = sym (eqb-true (refusal_at rule f p) 0 e)
-      by-test false e = refl
+      by-test : (t : Bool) → eqb (refusal_at rule f p) 0 ≡ t → (pick t accepted (verdict (refusal_at rule f p) p)).number ≡ 0 → refusal_at rule f p ≡ 0
+      by-test true e q = eqb-true (refusal_at rule f p) 0 e
+      by-test false e q = q
 
-  pub read_is : n.refusal ≡ 0 → n ≡ taken (value_at f p) (after_at f p)
-  unfolding number_at
-  read_is z = is ∙ rw (eq-eqb (refusal_at rule f p) 0 (sym refusal_is ∙ z))
+  -- what it is, and that it keeps the rule
+  pub record Kept (n : Number) : Type 0 where
+    pub value-is : n.value ≡ value_at f p
+    pub after-is : n.after ≡ after_at f p
+    pub accepted-is : number_verdict rule f p ≡ accepted
+    pub refusal-is : refusal_at rule f p ≡ 0
 
-  pub read-refused : (n.refusal ≡ 0 → ⊥) → number_verdict rule f p ≡ verdict n.refusal p
+  pub read-kept : (n : Number) → Ok n ≡ number_at rule f p → Kept n
   unfolding number_verdict
-  read-refused h = rw (ne_eqb (refusal_at rule f p) 0 (λ z. h (refusal_is ∙ z)), refusal_is)
-
-  pub read-accepted : n.refusal ≡ 0 → number_verdict rule f p ≡ accepted
-  unfolding number_verdict
-  read-accepted z = rw (eq-eqb (refusal_at rule f p) 0 (sym refusal_is ∙ z))
+  read-kept n e =
+      let a = answered-ok (number_verdict rule f p) (taken (value_at f p) (after_at f p)) n e in
+      let z : refusal_at rule f p ≡ 0 = verdict-zero a.0 in
+      record { value-is = ap (λ (m : Number). m.value) a.1; after-is = ap (λ (m : Number). m.after) a.1; accepted-is = rw z; refusal-is = z }
 
 -- a number that was read under none, and is looked at under a rule
-module _ (rule : ℕ → ℕ) (f : List ℕ) (p : ℕ) (n : Number) (is : n ≡ number_at any_number f p) where
-  pub rule-unread : (n.refusal ≡ 0 → ⊥) → n ≡ number_at rule f p
-  unfolding number_at
-  rule-unread h =
+module _ (rule : ℕ → ℕ) (f : List ℕ) (p : ℕ) where
+  pub rule-unread : (w : Verdict) → Err w ≡ number_at any_number f p → Err w ≡ number_at rule f p
+  unfolding number_verdict
+  rule-unread w e =
       elim (cases f p rule) [
-        | inl r ↦ absurd (h (refusal_is any_number f p n is ∙ reads-refusal f p any_number r))
-        | inr d ↦ is ∙ rw d.1
+        | inl r ↦ absurd ((answered-err (number_verdict any_number f p) (taken (value_at f p) (after_at f p)) w e).0 (rw (reads-refusal f p any_number r)))
+        | inr d ↦ e ∙ rw d.1
       ]
 
-  module _ (z : n.refusal ≡ 0) where
+  module _ (n : Number) (e : Ok n ≡ number_at any_number f p) where
     says : refusal_at rule f p ≡ rule n.value
     says =
-        let r = (zero-reads f p any_number (sym (refusal_is any_number f p n is) ∙ z)).0 in
-        reads-refusal f p rule r ∙ ap rule (sym (ap (λ (m : Number). m.value) (read_is any_number f p n is z)))
+        let k = read-kept any_number f p n e in
+        reads-refusal f p rule (zero-reads f p any_number k.refusal-is).0 ∙ ap rule (sym k.value-is)
 
-    pub rule-broken : (k : ℕ) → rule n.value ≡ k → (k ≡ 0 → ⊥) → refused_by k p ≡ number_at rule f p
-    unfolding number_at
-    rule-broken k e h = sym (rw (says, e, ne_eqb k 0 h))
+    pub rule-broken : (k : ℕ) → rule n.value ≡ k → (k ≡ 0 → ⊥) → Err (verdict k p) ≡ number_at rule f p
+    unfolding number_verdict
+    rule-broken k r h = sym (rw (says, r, ne_eqb k 0 h, ne_eqb k 0 h))
 
-    pub rule-kept : rule n.value ≡ 0 → n ≡ number_at rule f p
-    unfolding number_at
-    rule-kept e = read_is any_number f p n is z ∙ sym (rw (says, e))
+    pub broken-at : (r : Refused) (k : ℕ) → number_of r.refusal ≡ k → r.place ≡ p → rule n.value ≡ k → (k ≡ 0 → ⊥) → Err (told_by r) ≡ number_at rule f p
+    broken-at r k why place b h = rw (refused-at r k p why place) (rule-broken k b h)
+
+    pub rule-kept : rule n.value ≡ 0 → Ok n ≡ number_at rule f p
+    unfolding number_verdict
+    rule-kept r =
+        let z : refusal_at any_number f p ≡ 0 = (read-kept any_number f p n e).refusal-is in
+        (rw z at e) ∙ sym (rw (says, r))

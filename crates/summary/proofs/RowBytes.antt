@@ -8,22 +8,22 @@ use native.Mathlib.Omega.{arith}
 use mathlib.Core.List.{List, [], ◌∷◌, ◌++◌, map, append_assoc}
 use lib.ListN.{length, drop, length-append, length-map}
 use lib.Seq.{take-length}
+use Rattle.std.specs.Prelude.{Some}
 use Rattle.page.specs.Layout.{slot_limit, page_limit, pages_in}
 use Rattle.page.specs.Rows.{visible, visible_rows, rows_at, first_at, Listable}
 use Rattle.page.specs.declared.Row.{Row}
-use Rattle.page.specs.declared.NextRow.TheVariants.{At}
 use Rattle.page.proofs.RowLists.{row_next, rows_all}
 use Rattle.page.proofs.ListedRows.{Each, Standing, rows-stand}
 use Rattle.page.proofs.RowBounds.{rows_few}
 use Rattle.page.proofs.Visibility.{empty}
 use Rattle.summary.specs.Number.{groups}
-use Rattle.summary.specs.Summary.{edition, head_of, row_bytes, rows_bytes, file_of, shortened, summary_rows, summary_file}
+use Rattle.summary.specs.Summary.{head_of, row_bytes, rows_bytes, file_of, shortened, summary_rows, summary_file}
 use Rattle.summary.specs.Inner.{put}
 use Rattle.summary.proofs.Grouping.{groups-ten, length-put, put_two}
 
 -- ---- three numbers, one behind the other
 
-length_three : (x y z : List ℕ) → length (x ++ (y ++ z)) ≡ length x + length y + length z
+pub length_three : (x y z : List ℕ) → length (x ++ (y ++ z)) ≡ length x + length y + length z
 length_three x y z = omega (arith, length-append x (y ++ z), length-append y z)
 
 module _ (d : List ℕ) (at : ℕ) (x y z : List ℕ) (room : at + length (x ++ (y ++ z)) ≤ length d) where
@@ -46,11 +46,7 @@ module _ (d : List ℕ) (at : ℕ) (x y z : List ℕ) (room : at + length (x ++ 
             is-w ∙ rw (two, place) (put_two d (x ++ y) z at (omega (arith, length_three x y z, length-append x y))) ∙ ap (put d at) (append_assoc x y z),
           )
 
--- ---- a head and a row
-
-pub length-head : (lsn count : ℕ) → length (head_of lsn count) ≡ length (groups edition) + length (groups lsn) + length (groups count)
-unfolding head_of
-length-head lsn count = length_three (groups edition) (groups lsn) (groups count)
+-- ---- a row
 
 pub length-row : (r : Row) → length (row_bytes (shortened r)) ≡ length (groups r.page.0) + length (groups r.slot) + length (groups r.length)
 unfolding row_bytes
@@ -69,12 +65,12 @@ module _ (s : List ℕ) where
   unfolding rows_bytes
   rest-none i k e = rw e
 
-  pub rest-next : (i k : ℕ) (r : Row) → first_at i k (visible_rows s) ≡ At r → rest_bytes s i k ≡ row_bytes (shortened r) ++ rest_bytes s r.page.0 (r.slot + 1)
+  pub rest-next : (i k : ℕ) (r : Row) → first_at i k (visible_rows s) ≡ Some r → rest_bytes s i k ≡ row_bytes (shortened r) ++ rest_bytes s r.page.0 (r.slot + 1)
   unfolding rows_bytes
   rest-next i k r e = ap (λ (rs : List Row). rows_bytes (map shortened rs)) (row_next visible s i k r e)
 
   -- a row more is counted
-  module _ (i k rows bytes : ℕ) (r : Row) (e : first_at i k (visible_rows s) ≡ At r) where
+  module _ (i k rows bytes : ℕ) (r : Row) (e : first_at i k (visible_rows s) ≡ Some r) where
     pub counted : rows + length (rows_at i k (visible_rows s)) ≡ length (visible_rows s) → rows + 1 + length (rows_at r.page.0 (r.slot + 1) (visible_rows s)) ≡ length (visible_rows s)
     counted h = omega (arith, ap length (row_next visible s i k r e))
 
@@ -83,7 +79,7 @@ module _ (s : List ℕ) where
     measured h = omega (arith, ap length (rest-next i k r e), length-append (row_bytes (shortened r)) (rest_bytes s r.page.0 (r.slot + 1)))
 
   -- a row more is put
-  module _ (i k at : ℕ) (area : List ℕ) (r : Row) (e : first_at i k (visible_rows s) ≡ At r) (room : at + length (rest_bytes s i k) ≤ length area) where
+  module _ (i k at : ℕ) (area : List ℕ) (r : Row) (e : first_at i k (visible_rows s) ≡ Some r) (room : at + length (rest_bytes s i k) ≤ length area) where
     long : length (rest_bytes s i k) ≡ length (row_bytes (shortened r)) + length (rest_bytes s r.page.0 (r.slot + 1))
     long = ap length (rest-next i k r e) ∙ length-append (row_bytes (shortened r)) (rest_bytes s r.page.0 (r.slot + 1))
 

@@ -1,8 +1,8 @@
 -- The summary of the visible rows (paper 02, W6): edition 1, last LSN, row count, then per row in order page, slot and tuple length; how it is written, and how it is judged and read.
-use Rattle.std.specs.Prelude.{ℕ, zero, suc, List, [], ◌∷◌, ◌++◌, map, length, drop, get_or, ltb, eqb}
+use Rattle.std.specs.Prelude.{ℕ, zero, suc, List, [], ◌∷◌, ◌++◌, map, length, drop, ltb, eqb, Option, Result, slice_get}
 use Rattle.endian.specs.Pick.{pick}
 use Rattle.refusals.specs.Refusal.{summary_area, summary_edition, summary_range, summary_order, summary_left_over}
-use Rattle.refusals.specs.Verdict.{verdict, accepted, ◌then◌}
+use Rattle.refusals.specs.Verdict.{verdict, accepted, ◌then◌, answered}
 use Rattle.refusals.specs.declared.Verdict.{Verdict}
 use Rattle.page.specs.Layout.{page_limit, slot_limit, row_head, longest_tuple}
 use Rattle.page.specs.Fault.{verdict_of}
@@ -10,9 +10,7 @@ use Rattle.page.specs.Rows.{visible_rows}
 use Rattle.page.specs.declared.Row.{Row}
 use Rattle.summary.specs.Number.{groups, value_at, after_at, refusal_at, any_number}
 use Rattle.summary.specs.declared.SummaryRow.{SummaryRow}
-use Rattle.refusals.specs.declared.Written.{Written}
 use Rattle.summary.specs.declared.Summary.{Summary}
-use Rattle.summary.specs.declared.NumberedRow.{NumberedRow}
 use Rattle.summary.specs.declared.SummaryStep.{SummaryStep}
 
 abbrev pub edition : ℕ
@@ -50,11 +48,9 @@ summary_file s lsn = file_of lsn (summary_rows s)
 unfoldable pub write_verdict : ℕ → List ℕ → ℕ → List ℕ → Verdict
 write_verdict magic s lsn area = verdict_of magic s then pick (ltb (length area) (length (summary_file s lsn))) (verdict summary_area 0) accepted
 
--- the length written; refused, 0
-unfoldable pub summary_written : ℕ → List ℕ → ℕ → List ℕ → Written
-summary_written magic s lsn area =
-    let v = write_verdict magic s lsn area in
-    record { verdict = v; length = pick (eqb v.number 0) (length (summary_file s lsn)) 0 }
+-- the length written
+abbrev pub summary_written : ℕ → List ℕ → ℕ → List ℕ → Result ℕ Verdict
+summary_written magic s lsn area = answered (write_verdict magic s lsn area) (length (summary_file s lsn))
 
 -- the area afterwards: the file, and the later bytes as they were; refused, all as it was
 unfoldable pub summary_after : ℕ → List ℕ → ℕ → List ℕ → List ℕ
@@ -141,23 +137,24 @@ rows_of f = rows_from (count_of f) f (behind f 0)
 
 -- ---- answers
 
--- unless refused, last LSN, count, and where the first row stands
-unfoldable pub answered : Verdict → List ℕ → Summary
-answered v f =
-    pick (eqb v.number 0)
-    (record { verdict = accepted; lsn = record { 0 = lsn_of f }; count = count_of f; first = behind f 0 })
-    (record { verdict = v; lsn = record { 0 = 0 }; count = 0; first = 0 })
+-- last LSN, count, and where the first row stands
+abbrev pub summary_in : List ℕ → Summary
+summary_in f = record { lsn = record { 0 = lsn_of f }; count = count_of f; first = behind f 0 }
 
 -- the whole file judged
-abbrev pub summary_of : List ℕ → Summary
-summary_of f = answered (file_verdict f) f
+abbrev pub summary_of : List ℕ → Result Summary Verdict
+summary_of f = answered (file_verdict f) (summary_in f)
+
+-- row n of a file, from 0; none past the count
+abbrev pub numbered_row : List ℕ → ℕ → Result (Option SummaryRow) Verdict
+numbered_row f n = answered (file_verdict f) (slice_get (rows_of f) n)
 
 abbrev pub no_row : SummaryRow
 no_row = record { page = record { 0 = 0 }; slot = 0; length = 0 }
 
--- row n of a file, from 0; 0s past the count and where refused
-unfoldable pub numbered_row : List ℕ → ℕ → NumberedRow
-numbered_row f n = record { verdict = file_verdict f; row = pick (eqb (file_verdict f).number 0) (get_or (rows_of f) n no_row) no_row }
+-- the row at place p, and the place after it
+abbrev pub row_step : List ℕ → ℕ → SummaryStep
+row_step f p = record { row = row_at f p; after = behind f p }
 
 -- three numbers at place p read, whatever they are
 abbrev pub step_verdict : List ℕ → ℕ → Verdict
@@ -167,7 +164,7 @@ step_verdict f p = three_verdict any_number (λ n. any_number) any_number f p
 unfoldable pub step_of : List ℕ → ℕ → SummaryStep
 step_of f p =
     pick (eqb (step_verdict f p).number 0)
-    (record { row = row_at f p; after = behind f p })
+    (row_step f p)
     (record { row = no_row; after = p })
 
 -- the rows that n steps from place p on give

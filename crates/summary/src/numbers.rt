@@ -1,10 +1,11 @@
 // Numbers in groups of seven bits, written and read.
 ghost use Rattle.std.specs.Prelude.{◌≡◌, ◌+◌, ◌^◌, ◌≤◌, ◌<◌, length, drop};
-ghost use Rattle.summary.specs.Number.{any_number, continued, groups, misspelt, spelling, value_at};
-ghost use Rattle.summary.specs.Inner.{put, Ends, number_at};
+ghost use Rattle.refusals.specs.Verdict.{by_number};
+ghost use Rattle.summary.specs.Number.{any_number, groups, misspelt, spelling, value_at};
+ghost use Rattle.summary.specs.Inner.{put, end_of, Ends, number_at, three};
 
 use crate::Number;
-use refusals::{SUMMARY_ENDS_EARLY, SUMMARY_SPELLING};
+use refusals::{Refusal, Refused};
 
 // How many groups a number below 16,384 has. It takes no jump, which would often be guessed wrong.
 fn small_size(n: u64) -> usize
@@ -21,16 +22,10 @@ pub fn size(n: u64) -> usize
     if n < 16384 {
         return small_size(n);
     }
-    let mut rest = n;
-    let mut count: usize = 1;
-    while 128 <= rest {
-        rest = rest / 128;
-        count += 1;
-    }
-    count
+    n.ilog2() as usize / 7 + 1
 }
 
-// Writes a number at a place and gives back the place after it: its lowest group, then the rest as a smaller number of the same kind.
+// Writes a number at a place and gives back the place after it: its lowest group, then the rest as a smaller number of the same kind. It calls itself, and is no loop: docs/ARCHITECTURE.md names that form.
 pub fn put_number(area: &mut [u8], at: usize, n: u64) -> usize
     requires { at + length (groups n) ≤ length area.old }
     ensures value { result ≡ at + length (groups n) }
@@ -44,29 +39,34 @@ pub fn put_number(area: &mut [u8], at: usize, n: u64) -> usize
     put_number(area, at + 1, n / 128)
 }
 
-// A number that is refused at a place.
-pub fn refused(refusal: u64, at: usize) -> Number
-    ensures { result ≡ record { refusal = refusal; value = 0; after = at } }
+// How many groups three numbers have.
+pub fn three_size(a: u64, b: u64, c: u64) -> usize
+    ensures { (result ≡ length (three a b c)) × (result ≤ 30) }
 {
-    Number {
-        refusal: refusal,
-        value: 0,
-        after: at,
-    }
+    size(a) + size(b) + size(c)
 }
 
-// Where the last group of the number at a place stands: the first byte without the high bit. The file's end, or a place behind it, where there is none.
-fn last_group(file: &[u8], at: usize) -> usize
-    ensures { result ≡ at + continued (drop at file.now) }
+// Writes three numbers one behind the other, and gives back the place after them.
+pub fn put_three(area: &mut [u8], at: usize, a: u64, b: u64, c: u64) -> usize
+    requires { at + length (three a b c) ≤ length area.old }
+    ensures value { result ≡ at + length (three a b c) }
+    ensures area_after { area.new ≡ put area.old at (three a b c) }
 {
-    let mut p = at;
-    while p < file.len() {
+    let second = put_number(area, at, a);
+    let third = put_number(area, second, b);
+    put_number(area, third, c)
+}
+
+// Where the last group of the number at a place stands: the first byte without the high bit. None where the file ends before.
+fn last_group(file: &[u8], at: usize) -> Option<usize>
+    ensures { result ≡ end_of file.now at }
+{
+    for p in at..file.len() {
         if file[p] < 128 {
-            return p;
+            return Some(p);
         }
-        p += 1;
     }
-    p
+    None
 }
 
 // Whether the number at a place, whose last group stands at end, has more groups than the fewest or is over 64 bits.
@@ -98,29 +98,24 @@ fn value(file: &[u8], at: usize, end: usize) -> u64
     ensures { result ≡ value_at file.now at }
 {
     let mut n: u64 = 0;
-    let mut p = end + 1;
-    while at < p {
-        p -= 1;
-        let b = file[p] as u64;
-        n = 128 * n + b % 128;
+    for p in (at..end + 1).rev() {
+        n = 128 * n + u64::from(file[p]) % 128;
     }
     n
 }
 
 // Reads the number at a place, whatever it is.
-pub fn read(file: &[u8], at: usize) -> Number
-    ensures { result ≡ number_at any_number file.now at }
+pub fn read(file: &[u8], at: usize) -> Result<Number, Refused>
+    ensures { by_number result ≡ number_at any_number file.now at }
 {
-    let end = last_group(file, at);
-    if file.len() <= end {
-        return refused(SUMMARY_ENDS_EARLY, at);
-    }
+    let Some(end) = last_group(file, at) else {
+        return Err(Refusal::SummaryEndsEarly.at(at));
+    };
     if is_misspelt(file, at, end) {
-        return refused(SUMMARY_SPELLING, at);
+        return Err(Refusal::SummarySpelling.at(at));
     }
-    Number {
-        refusal: 0,
+    Ok(Number {
         value: value(file, at, end),
         after: end + 1,
-    }
+    })
 }

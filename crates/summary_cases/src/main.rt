@@ -4,7 +4,7 @@
 
 ghost use Rattle.std.specs.Prelude.{◌≡◌, length};
 
-use endian::Lsn;
+use endian::{Lsn, PageNumber};
 use std::io;
 use summary::SummaryRow;
 
@@ -70,33 +70,46 @@ fn written(
     lsn: u64,
     area: &mut [u8],
 ) -> io::Result<()> {
-    let w = summary::write(magic, p, Lsn(lsn), area);
-    let v = w.verdict;
+    let (number, place, length) = match summary::write(magic, p, Lsn(lsn), area) {
+        Ok(length) => (0, 0, length),
+        Err(e) => (e.refusal.number(), e.place, 0),
+    };
     print!(rt;
-        "{name} into {}: {} at {}, length {},",
-        area.len(),
-        v.number,
-        v.place,
-        w.length
+        "{name} into {}: {number} at {place}, length {length},",
+        area.len()
     )?;
     show_area(rt, area)
 }
 
 // Reads a file, and shows the answer.
 fn judged(rt: &impl Print, name: &str, file: &[u8]) -> io::Result<()> {
-    let s = summary::read(file);
-    let v = s.verdict;
-    println!(rt;
-        "{name}: {} at {}, last LSN {}, count {}, first row at {}",
-        v.number, v.place, s.lsn.0, s.count, s.first
-    )
+    match summary::read(file) {
+        Ok(s) => println!(rt;
+            "{name}: 0 at 0, last LSN {}, count {}, first row at {}",
+            s.lsn.0, s.count, s.first
+        ),
+        Err(e) => println!(rt;
+            "{name}: {} at {}, last LSN 0, count 0, first row at 0",
+            e.refusal.number(),
+            e.place
+        ),
+    }
 }
 
+// A row that is none is shown as zeros.
+const NO_ROW: SummaryRow = SummaryRow {
+    page: PageNumber(0),
+    slot: 0,
+    length: 0,
+};
+
 fn row_of(rt: &impl Print, file: &[u8], n: u64) -> io::Result<()> {
-    let r = summary::row(file, n);
-    let v = r.verdict;
-    print!(rt; "row {n}: {} at {}", v.number, v.place)?;
-    show_row(rt, r.row)?;
+    let (number, place, row) = match summary::row(file, n) {
+        Ok(row) => (0, 0, row),
+        Err(e) => (e.refusal.number(), e.place, None),
+    };
+    print!(rt; "row {n}: {number} at {place}")?;
+    show_row(rt, row.unwrap_or(NO_ROW))?;
     println!(rt)
 }
 
@@ -112,15 +125,10 @@ fn step_of(rt: &impl Print, file: &[u8], place: usize) -> io::Result<()> {
 const EXAMPLE: [u8; 7] = [1, 172, 2, 1, 2, 0, 40];
 
 fn write_cases(rt: &impl Print, p: &[u8]) -> io::Result<()> {
-    written(rt, "one row", MAGIC, p, 300, &mut [238u8; 0])?;
-    written(rt, "one row", MAGIC, p, 300, &mut [238u8; 1])?;
-    written(rt, "one row", MAGIC, p, 300, &mut [238u8; 2])?;
-    written(rt, "one row", MAGIC, p, 300, &mut [238u8; 3])?;
-    written(rt, "one row", MAGIC, p, 300, &mut [238u8; 4])?;
-    written(rt, "one row", MAGIC, p, 300, &mut [238u8; 5])?;
-    written(rt, "one row", MAGIC, p, 300, &mut [238u8; 6])?;
-    written(rt, "one row", MAGIC, p, 300, &mut [238u8; 7])?;
-    written(rt, "one row", MAGIC, p, 300, &mut [238u8; 8])?;
+    for length in 0..9 {
+        let mut area = [238u8; 8];
+        written(rt, "one row", MAGIC, p, 300, &mut area[..length])?;
+    }
     written(rt, "one row", MAGIC, p, 300, &mut [238u8; 16])
 }
 

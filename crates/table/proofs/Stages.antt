@@ -1,12 +1,12 @@
 -- The table while records are stored, and the block that they are taken from.
 -- Assumes nothing.
-use mathlib.Core.Path.{◌≡◌, refl, sym, ap, ◌∙◌, subst}
+use mathlib.Core.Path.{◌≡◌, refl, sym, ap, ◌∙◌}
 use mathlib.Core.Bool.{Bool, true, false}
 use Prim.Native.Nat.{ℕ, zero, suc, ◌+◌, ◌≤◌, ◌<◌}
 use native.Mathlib.Numerals.{add-one}
 use native.Mathlib.Omega.{arith}
 use mathlib.Core.List.{List, ◌++◌}
-use lib.ListN.{length, get_or, set, take, drop, length-append, length-drop}
+use lib.ListN.{length, get_or, set, take, drop}
 use lib.Seq.{length-take-le, take_all, take-suc, drop-cons, append_snoc, set_at}
 use lib.Dec.{eqb}
 use borrow.Author.Tests.{eq-eqb, ne_eqb, eqb-true, eqb-false}
@@ -17,7 +17,8 @@ use Rattle.rules.specs.Recover.{records_of, table_after}
 use Rattle.rules.specs.declared.Answer.{Answer}
 use Rattle.rules.specs.declared.Record.{Record}
 use Rattle.table.specs.Telling.{reach, Orderly}
-use Rattle.table.specs.Holding.{Space, HeldTo, Next, no_record, due}
+use Rattle.table.specs.Holding.{HeldTo, Next, no_record, due}
+use Rattle.table.specs.declared.inner.records.RowBlock.{RowBlock}
 use Rattle.table.proofs.Flattening.{begun-length, records-many}
 
 -- ---- how many records there are
@@ -31,30 +32,25 @@ unfolding due
 due-none a h = rw (ne_eqb a.number 0 h)
 
 -- n records can be stored in a table: nothing is asked of the log where there is none
-pub record Storable (s : List ℕ) (end n records numbers : ℕ) : Type 0 where
+pub record Storable (s : List ℕ) (end n records : ℕ) : Type 0 where
   pub orderly : 0 < n → Orderly s
   pub ends : 0 < n → end_of s ≡ end
   pub short : 0 < n → length s < reach
   pub begun : 0 < n → n ≤ count is_begin (entries s)
   pub room : n ≤ records
-  pub space : Space numbers
 
 -- the table ys after i records
 abbrev pub stored_to : List ℕ → ℕ → List Record → List Record
 stored_to s i ys = take i (records_of (entries s) (entries s)) ++ drop i ys
 
--- i records are stored, and the scratch holds the block of the last
-pub record Stage (s : List ℕ) (n size : ℕ) : Type 0 where
+-- i records are stored, and the block holds the row of the last
+pub record Stage (s : List ℕ) (n : ℕ) : Type 0 where
   pub index : ℕ
   pub within : index ≤ n
-  pub scratch : List ℕ
-  pub long : length scratch ≡ size
-  pub held : 0 < index → HeldTo s scratch index
+  pub block : RowBlock
+  pub held : 0 < index → HeldTo s block index
 
-abbrev pub start : (s : List ℕ) (n size : ℕ) (xs : List ℕ) → length xs ≡ size → Stage s n size
-start s n size xs l = record { index = 0; within = omega arith; scratch = xs; long = l; held = λ h. absurd (omega arith) }
-
-module _ {s : List ℕ} {end n rows size : ℕ} (p : Storable s end n rows size) where
+module _ {s : List ℕ} {end n rows : ℕ} (p : Storable s end n rows) where
   pub begun_all : 0 < n → n ≤ length (records_of (entries s) (entries s))
   begun_all h = omega (arith, p.begun h, records-many (entries s) (entries s), begun-length (entries s))
 
@@ -63,24 +59,16 @@ module _ {s : List ℕ} {end n rows size : ℕ} (p : Storable s end n rows size)
   reaches zero h = omega arith
   reaches (suc i) h = omega (arith, begun_all (omega arith))
 
-  pub length-stored : (i : ℕ) → i ≤ n → (ys : List Record) → length ys ≡ rows → length (stored_to s i ys) ≡ length ys
-  length-stored i h ys l =
-      length-append (take i (records_of (entries s) (entries s))) (drop i ys) ∙ omega (arith, length-take-le i (records_of (entries s) (entries s)) (reaches i h), length-drop i ys, p.room)
-
-  module _ (i : Stage s n size) (less : i.index < n) where
+  module _ (i : Stage s n) (less : i.index < n) where
     -- what taking the next one asks
-    pub next : Next s end i.scratch i.index
+    pub next : Next s end i.block i.index
     next = record {
       orderly = p.orderly (omega arith);
       ends = p.ends (omega arith);
       short = p.short (omega arith);
       begun = omega (arith, p.begun (omega arith));
-      space = subst Space (sym i.long) p.space;
       held = i.held;
     }
-
-    abbrev pub step : (xs : List ℕ) → length xs ≡ length i.scratch → HeldTo s xs (i.index + 1) → Stage s n size
-    step xs l h = record { index = i.index + 1; within = omega arith; scratch = xs; long = l ∙ i.long; held = λ _. h }
 
     -- and what storing it makes of the table
     pub stored_next : (ys : List Record) → length ys ≡ rows → set (stored_to s i.index ys) i.index (get_or (records_of (entries s) (entries s)) i.index no_record) ≡ stored_to s (i.index + 1) ys
@@ -94,10 +82,7 @@ module _ {s : List ℕ} {end n rows size : ℕ} (p : Storable s end n rows size)
 
 -- ---- the table of an answer
 
-pub start-rows : (s : List ℕ) (ys : List Record) → ys ≡ stored_to s 0 ys
-start-rows s ys = refl
-
-module _ (s : List ℕ) (a : Answer) (ys : List Record) (size : ℕ) (space : Space size) (ordered : a.number ≡ 0 → Orderly s)
+module _ (s : List ℕ) (a : Answer) (ys : List Record) (ordered : a.number ≡ 0 → Orderly s)
     (asked : a.number ≡ 0 → (end_of s ≡ a.tail) × (length s < reach) × (count is_begin (entries s) ≡ due a) × (due a ≤ length ys)) where
   -- a record is due only where nothing is refused
   accepted : 0 < due a → a.number ≡ 0
@@ -107,14 +92,13 @@ module _ (s : List ℕ) (a : Answer) (ys : List Record) (size : ℕ) (space : Sp
       go zero e = e
       go (suc n) e = absurd (omega (arith, h, due-none a (λ z. omega (arith, e, z))))
 
-  pub storable : Storable s a.tail (due a) (length ys) size
+  pub storable : Storable s a.tail (due a) (length ys)
   storable = record {
     orderly = λ h. ordered (accepted h);
     ends = λ h. (asked (accepted h)).0;
     short = λ h. (asked (accepted h)).1;
     begun = λ h. omega (arith, (asked (accepted h)).2);
     room = room a.number refl;
-    space = space;
   }
     where
       room : (n : ℕ) → a.number ≡ n → due a ≤ length ys

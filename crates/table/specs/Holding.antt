@@ -1,5 +1,5 @@
--- Internal: a block of rows from which records are taken one after the other, behind three numbers.
-use Rattle.std.specs.Prelude.{ℕ, ◌+◌, ◌-◌, ◌*◌, ◌/◌, ◌≤◌, ◌<◌, ◌≡◌, List, map, eqb, length, get_or, take, drop}
+-- Internal: a block of rows from which records are taken one after the other.
+use Rattle.std.specs.Prelude.{ℕ, ◌+◌, ◌/◌, ◌≤◌, ◌<◌, ◌≡◌, List, map, eqb, length, take, drop}
 use Rattle.endian.specs.Pick.{pick}
 use Rattle.wal.specs.Walk.{entries, end_of}
 use Rattle.wal.specs.Prefix.{Met, onward}
@@ -7,49 +7,31 @@ use Rattle.rules.specs.Order.{count, is_begin}
 use Rattle.rules.specs.declared.Answer.{Answer}
 use Rattle.rules.specs.declared.Record.{Record}
 use Rattle.table.specs.Flat.{stride}
+use Rattle.table.specs.declared.inner.records.RowBlock.{RowBlock}
 use Rattle.table.specs.Rows.{rows}
 use Rattle.table.specs.Telling.{reach, Orderly, begun_rows, tell}
 
--- in front of the rows: where the Begins behind them stand, the index of the first row's record, and how many rows there are
-abbrev pub head : ℕ
-head = 3
-
-abbrev pub next_of : List ℕ → ℕ
-next_of xs = get_or xs 0 0
-
-abbrev pub base_of : List ℕ → ℕ
-base_of xs = get_or xs 1 0
-
-abbrev pub count_of : List ℕ → ℕ
-count_of xs = get_or xs 2 0
-
--- so many numbers are such a block, with room for a row
-pub record Space (n : ℕ) : Type 0 where
-  pub some : head + stride ≤ n
-  pub even : n - head ≡ stride * ((n - head) / stride)
-
--- the numbers xs hold the rows of some of the Begins, told by all entries
-pub record Held (s xs : List ℕ) : Type 0 where
-  pub met : Met s (next_of xs)
-  pub rest : begun_rows (onward s (next_of xs)) ≡ drop (base_of xs + count_of xs) (begun_rows (entries s))
-  pub many : base_of xs + count_of xs ≤ length (begun_rows (entries s))
-  pub room : count_of xs ≤ length (drop head xs) / stride
-  pub front : take (count_of xs) (rows (drop head xs)) ≡ map (tell (entries s)) (take (count_of xs) (drop (base_of xs) (begun_rows (entries s))))
+-- the block b holds the rows of some of the Begins, told by all entries
+pub record Held (s : List ℕ) (b : RowBlock) : Type 0 where
+  pub met : Met s b.next
+  pub rest : begun_rows (onward s b.next) ≡ drop (b.base + b.count) (begun_rows (entries s))
+  pub many : b.base + b.count ≤ length (begun_rows (entries s))
+  pub room : b.count ≤ length b.rows / stride
+  pub front : take b.count (rows b.rows) ≡ map (tell (entries s)) (take b.count (drop b.base (begun_rows (entries s))))
 
 -- those up to the record i
-pub record HeldTo (s xs : List ℕ) (i : ℕ) : Type 0 where
-  pub held : Held s xs
-  pub low : base_of xs ≤ i
-  pub high : i ≤ base_of xs + count_of xs
+pub record HeldTo (s : List ℕ) (b : RowBlock) (i : ℕ) : Type 0 where
+  pub held : Held s b
+  pub low : b.base ≤ i
+  pub high : i ≤ b.base + b.count
 
 -- record i can be taken: nothing is held at first
-pub record Next (s : List ℕ) (end : ℕ) (xs : List ℕ) (i : ℕ) : Type 0 where
+pub record Next (s : List ℕ) (end : ℕ) (b : RowBlock) (i : ℕ) : Type 0 where
   pub orderly : Orderly s
   pub ends : end_of s ≡ end
   pub short : length s < reach
   pub begun : i < count is_begin (entries s)
-  pub space : Space (length xs)
-  pub held : 0 < i → HeldTo s xs i
+  pub held : 0 < i → HeldTo s b i
 
 abbrev pub no_record : Record
 no_record = record { number = record { 0 = 0 }; first = record { 0 = 0 }; outcome = 0; changes = 0; ending = record { 0 = 0 }; last = record { 0 = 0 } }

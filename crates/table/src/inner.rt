@@ -1,9 +1,8 @@
-// The transaction table, for callers that know the log to be accepted.
+// The transaction table, for callers that know the log to be accepted. Its walks over the log stay loops with `let .. else`, the form of docs/ARCHITECTURE.md: a step is as long as its entry, so there is no index to count.
 ghost use Rattle.std.specs.Prelude.{◌≡◌, true, ◌++◌, map, ℕ, ◌+◌, ◌*◌, ◌/◌, ◌≤◌, ◌<◌, length, get_or, set, take, drop};
 ghost use Rattle.wal.specs.Read.{first};
 ghost use Rattle.wal.specs.Walk.{entries, end_of};
 ghost use Rattle.wal.specs.Prefix.{Met, onward};
-ghost use Rattle.rules.specs.Shape.{is_changing};
 ghost use Rattle.rules.specs.Order.{count, is_begin};
 ghost use Rattle.table.specs.Flat.{stride, flat_after};
 ghost use Rattle.table.specs.Rows.{blank, rows, Full, Rising, Found};
@@ -12,17 +11,14 @@ ghost use Rattle.table.specs.Telling.{reach, guessed, Orderly, new_row, begun_ro
 use crate::rows::{key_at, put, row_at, sort, sorted};
 use crate::{Row, STRIDE};
 use endian::{Lsn, TxnNumber};
+use sorting::inner::partition_point;
 use wal::inner::known_at;
-use wal::{FIRST, Reading};
+use wal::{FIRST, Kind, Reading};
 
 pub mod records;
 
-// The types of entries that are no changes.
+// The type of an entry that begins a transaction. A number and no Kind: two walks look at it at each entry, and tests by Kind::of are no plainer.
 const BEGIN: u8 = 1;
-
-const COMMIT: u8 = 2;
-
-const ROLLBACK: u8 = 3;
 
 // The numbers of a row that rows are sorted by.
 const NUMBER: usize = 0;
@@ -32,27 +28,17 @@ const FIRST_LSN: usize = 1;
 // How many guesses are kept, one for each remainder of a transaction number.
 pub const GUESSES: usize = 16384;
 
-// The row of transaction t, by halves of the rows; how many rows there are where it has none.
-fn search(a: &[u64], t: TxnNumber) -> usize
+// The row of transaction t, by halves of the rows.
+fn search(a: &[u64], t: TxnNumber) -> Option<usize>
     requires { Rising 0 (rows a.now) }
     ensures { Found (rows a.now) t.0 result }
 {
     let n = a.len() / STRIDE;
-    let mut lo: usize = 0;
-    let mut hi: usize = n;
-    while lo < hi {
-        let mid = lo + (hi - lo) / 2;
-        let k = key_at(a, mid, NUMBER);
-        if k == t.0 {
-            return mid;
-        }
-        if k < t.0 {
-            lo = mid + 1;
-            continue;
-        }
-        hi = mid;
+    let i = partition_point(n, |i| key_at(a, i, NUMBER) < t.0);
+    if i < n && key_at(a, i, NUMBER) == t.0 {
+        return Some(i);
     }
-    n
+    None
 }
 
 // Where the guess for transaction t is kept.
@@ -71,77 +57,45 @@ fn keep(guesses: &mut [u32], t: TxnNumber, i: usize)
 }
 
 // The same as `search`, after the guess that is kept for t; what is found is kept.
-fn find(a: &[u64], guesses: &mut [u32], t: TxnNumber) -> usize
+fn find(a: &[u64], guesses: &mut [u32], t: TxnNumber) -> Option<usize>
     requires rising { Rising 0 (rows a.now) }
     requires guessed_in_bounds { (guessed ≤ length guesses.old) × (length a.now / stride < 4294967296) }
     ensures { Found (rows a.now) t.0 result }
 {
     let h = slot(t);
     let g = guesses[h] as usize;
-    if g < a.len() / STRIDE {
-        if key_at(a, g, NUMBER) == t.0 {
-            return g;
-        }
+    if g < a.len() / STRIDE && key_at(a, g, NUMBER) == t.0 {
+        return Some(g);
     }
-    let r = search(a, t);
+    let r = search(a, t)?;
     keep(guesses, t, r);
-    r
-}
-
-// Whether an entry of this type is a change.
-fn is_change(kind: u8) -> bool
-    ensures { result ≡ is_changing kind }
-{
-    if kind == 4 {
-        return true;
-    }
-    if kind == 5 {
-        return true;
-    }
-    kind == 10
+    Some(r)
 }
 
 // The row after one more entry of its transaction, of a type and an LSN.
+#[tactic(auto, unfolding(crate::specs::Telling::told_by, wal::specs::Kind::kind_of, rules::specs::Shape::is_changing))]
 fn told(r: Row, kind: u8, lsn: Lsn) -> Row
     requires { r.changes < 18446744073709551615 }
     ensures { result ≡ told_by kind lsn r }
 {
-    let number = r.number;
-    let first = r.first;
-    let changes = r.changes;
-    let ending = r.ending;
-    let last = r.last;
-    if kind == COMMIT {
-        return Row {
-            number: number,
-            first: first,
+    match Kind::of(kind) {
+        Some(Kind::Commit) => Row {
             outcome: 1,
-            changes: changes,
             ending: lsn,
-            last: last,
-        };
-    }
-    if kind == ROLLBACK {
-        return Row {
-            number: number,
-            first: first,
+            ..r
+        },
+        Some(Kind::Rollback) => Row {
             outcome: 2,
-            changes: changes,
             ending: lsn,
-            last: last,
-        };
-    }
-    if is_change(kind) {
-        return Row {
-            number: number,
-            first: first,
-            outcome: r.outcome,
-            changes: changes + 1,
-            ending: ending,
+            ..r
+        },
+        Some(Kind::Insert | Kind::Delete | Kind::Update) => Row {
+            changes: r.changes + 1,
             last: lsn,
-        };
+            ..r
+        },
+        _ => r,
     }
-    r
 }
 
 // Enters an entry of transaction t, after `seen` Begins: the row of a Begin is guessed to be the next one. Says how many Begins were seen then.
@@ -159,10 +113,9 @@ fn enter(a: &mut [u64], guesses: &mut [u32], seen: usize, kind: u8, t: TxnNumber
         keep(guesses, t, seen);
         return seen + 1;
     }
-    let j = find(a, guesses, t);
-    if a.len() / STRIDE <= j {
+    let Some(j) = find(a, guesses, t) else {
         return seen;
-    }
+    };
     let r = row_at(a, j);
     put(a, j, told(r, kind, lsn));
     seen
@@ -187,6 +140,20 @@ fn enter_all(log: &[u8], from: usize, end: usize, a: &mut [u64], guesses: &mut [
         let l = e.lsn;
         seen = enter(a, guesses, seen, e.kind, t, l);
         at = at + e.length;
+    }
+}
+
+// The row of a Begin, before any other entry of its transaction.
+fn new_row(t: TxnNumber, l: Lsn) -> Row
+    ensures { result ≡ new_row t l }
+{
+    Row {
+        number: t,
+        first: l,
+        outcome: 0,
+        changes: 0,
+        ending: Lsn(0),
+        last: Lsn(0),
     }
 }
 
@@ -221,18 +188,7 @@ fn begins(log: &[u8], from: usize, end: usize, a: &mut [u64]) -> Taken
         }
         let t = e.txn;
         let l = e.lsn;
-        put(
-            a,
-            n,
-            Row {
-                number: t,
-                first: l,
-                outcome: 0,
-                changes: 0,
-                ending: Lsn(0),
-                last: Lsn(0),
-            },
-        );
+        put(a, n, new_row(t, l));
         n += 1;
         at = at + e.length;
     }
@@ -288,18 +244,7 @@ fn begin_row(a: &mut [u64], guesses: &mut [u32], n: usize, t: TxnNumber, l: Lsn)
     requires { Full a.old × (guessed ≤ length guesses.old) × (n < length a.old / stride) × (n < 4294967296) }
     ensures { rows a.new ≡ set (rows a.old) n (new_row t l) }
 {
-    put(
-        a,
-        n,
-        Row {
-            number: t,
-            first: l,
-            outcome: 0,
-            changes: 0,
-            ending: Lsn(0),
-            last: Lsn(0),
-        },
-    );
+    put(a, n, new_row(t, l));
     keep(guesses, t, n);
 }
 

@@ -3,31 +3,11 @@
 
 ghost use Rattle.std.specs.Prelude.{◌≡◌, ◌+◌, ◌*◌, ◌/◌, ◌≤◌, leb, length};
 ghost use Rattle.endian.specs.Pick.{pick};
-ghost use Rattle.crc32c.specs.Tables.{Tables};
 ghost use Rattle.page.specs.Fault.{verdict_of};
 ghost use Rattle.page.specs.FreeMap.{free_pages, ones_of};
 ghost use Rattle.page.specs.Layout.{pages_in};
 ghost use Rattle.timed.specs.Pieces.{mixed};
 ghost use Rattle.wal.specs.Walk.{end_of};
-
-use crc32c::inner::Tables;
-
-fn mixed_of(t: &Tables, s: &[u8], n: usize, count: usize) -> u32
-    requires tables { Tables t.now }
-    requires n_in_bounds { count * n ≤ length s.now }
-    ensures { result ≡ mixed count n s.now }
-{
-    let mut x: u32 = 0;
-    let mut at = 0;
-    let mut k = 0;
-    while k < count {
-        let end = at + n;
-        x = x ^ crc32c::inner::crc32c(t, &s[at..end]);
-        at = end;
-        k += 1;
-    }
-    x
-}
 
 // The checksums of the whole pieces of n bytes of s, mixed into one number.
 #[unsafe(no_mangle)]
@@ -38,7 +18,11 @@ pub extern "C" fn timed_crc32c(s: &[u8], n: usize) -> u32
         return 0;
     }
     let t = crc32c::inner::tables();
-    mixed_of(&t, s, n, s.len() / n)
+    let mut x: u32 = 0;
+    for piece in s.chunks_exact(n) {
+        x ^= crc32c::inner::crc32c(&t, piece);
+    }
+    x
 }
 
 // The number of the verdict on a page area.
@@ -46,7 +30,10 @@ pub extern "C" fn timed_crc32c(s: &[u8], n: usize) -> u32
 pub extern "C" fn timed_verify(magic: u64, pages: &[u8]) -> u64
     ensures { result ≡ (verdict_of magic pages.now).number }
 {
-    page::verify(magic, pages).number
+    match page::verify(magic, pages) {
+        Ok(()) => 0,
+        Err(e) => e.refusal.number(),
+    }
 }
 
 // The place where the walk of a log ends.
@@ -64,10 +51,8 @@ pub extern "C" fn timed_free_pages(pages: &[u8]) -> u64
 {
     let n = pages.len() / page::PAGE_BYTES;
     let mut total: u64 = 0;
-    let mut i = 0;
-    while i < n {
+    for i in 0..n {
         total += page::inner::free_bit(pages, i) as u64;
-        i += 1;
     }
     total
 }

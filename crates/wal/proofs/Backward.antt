@@ -1,4 +1,5 @@
 -- Reading backward: from an entry's end it is found again, and from the walked end the list comes out reversed, and then none. Assumes nothing.
+use Rattle.std.specs.Prelude.{Option, Some, None}
 use Prim.Native.Nat.{ℕ, zero, suc, ◌+◌, ◌-◌, ◌≤◌}
 use mathlib.Core.Path.{◌≡◌, refl, sym, ap, subst, ◌∙◌}
 use mathlib.Core.List.{List, [], ◌∷◌, reverse_aux, reverse}
@@ -14,15 +15,13 @@ use Rattle.wal.specs.Walk.{views, end_of, end_from, backward}
 use Rattle.wal.specs.declared.EntryView.{EntryView}
 use Rattle.wal.specs.declared.Reading.{Reading}
 use Rattle.wal.specs.declared.Reading.TheVariants.{Whole, End, Torn, Unused, Damage}
-use Rattle.wal.specs.declared.Before.{Before}
-use Rattle.wal.specs.declared.Before.TheVariants.{Found, Nothing}
 use Rattle.wal.proofs.ReadLaws.{too-near, whole_before}
 use Rattle.wal.proofs.WalkLaws.{EntryAt, entry_at, entry_whole, whole_length, whole-at, Walk, done, step, walk}
 
 -- ---- one step
 
 -- the entry at p ends at p + its length, and the step backward from there finds it again
-pub found-again : (s : List ℕ) (p : ℕ) {v : EntryView} → read_at s p ≡ Whole v → read_before s (p + v.length) ≡ Found v
+pub found-again : (s : List ℕ) (p : ℕ) {v : EntryView} → read_at s p ≡ Whole v → read_before s (p + v.length) ≡ Some v
 found-again s p {v} h =
     let k = entry_at s p h in
     let at : p + v.length - 4 ≡ p + (v.length - 4) = omega arith in
@@ -30,11 +29,11 @@ found-again s p {v} h =
     let n : v.length ≡ length_before s (p + v.length) = sym (ap (λ (i : ℕ). number_at 4 i s) at ∙ k.back) in
     whole_before s (p + v.length) (omega arith) (omega arith) (omega arith) (omega arith) (omega arith) n (sym (ap (λ (i : ℕ). whole_at s i v.length) back ∙ whole-at k))
 
-past : {v : EntryView} (b : Bool) {y : Before} → pick b Nothing y ≡ Found v → (b ≡ false) × (y ≡ Found v)
+past : {v : EntryView} (b : Bool) {y : Option EntryView} → pick b None y ≡ Some v → (b ≡ false) × (y ≡ Some v)
 past true h = let z : ◌≡◌ {A = ℕ} 0 1 = cc in absurd (omega arith)
 past false h = (refl, h)
 
-from_found : {v : EntryView} (r : Reading) → found r ≡ Found v → r ≡ Whole v
+from_found : {v : EntryView} (r : Reading) → found r ≡ Some v → r ≡ Whole v
 from_found (Whole u) h = cc
 from_found End h = cc
 from_found Torn h = cc
@@ -42,7 +41,7 @@ from_found Unused h = cc
 from_found Damage h = cc
 
 -- what a step backward finds stands there, and ends where the step began
-pub entry-before : (s : List ℕ) (p : ℕ) {v : EntryView} → read_before s p ≡ Found v → EntryAt s v.place v × (v.place + v.length ≡ p)
+pub entry-before : (s : List ℕ) (p : ℕ) {v : EntryView} → read_before s p ≡ Some v → EntryAt s v.place v × (v.place + v.length ≡ p)
 unfolding read_before
 entry-before s p {v} h =
     let n = length_before s p in
@@ -61,7 +60,7 @@ entry-before s p {v} h =
     (subst (λ (i : ℕ). EntryAt s i v) at k, omega arith)
 
 -- none stands before the first place
-pub none-before-first : (s : List ℕ) → read_before s 32 ≡ Nothing
+pub none-before-first : (s : List ℕ) → read_before s 32 ≡ None
 none-before-first s = sym (too-near s 32 (omega arith))
 
 -- ---- all steps

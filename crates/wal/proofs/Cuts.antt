@@ -23,7 +23,7 @@ use Rattle.wal.specs.declared.Reading.{Reading}
 use Rattle.wal.specs.declared.Reading.TheVariants.{Whole, End, Torn, Unused, Damage}
 use Rattle.wal.proofs.Zeros.{longer-other}
 use Rattle.wal.proofs.ReadLaws.{below, past_end, torn-head, unused, too-low, too-high, torn-body, whole}
-use Rattle.wal.proofs.WalkLaws.{EntryAt, entry_at, entry_whole, whole_length, inner-lengths, is_whole, not_end, not-damage, Walk, done, step, walk, walk_is, walk_ends, next, none, end-from}
+use Rattle.wal.proofs.WalkLaws.{EntryAt, entry_at, entry_whole, whole_length, inner-lengths, is_whole, not_end, not-damage, Walk, done, step, walk, walk_is, next, none, end-from}
 
 -- ---- an entry is decided by its own bytes
 

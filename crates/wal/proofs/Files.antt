@@ -3,14 +3,14 @@
 use Prim.Native.Nat.{ℕ, ◌+◌, ◌-◌, ◌<◌, ◌≤◌}
 use mathlib.Core.Path.{◌≡◌, refl, sym, ap, ap₂, subst, ◌∙◌}
 use mathlib.Core.Logic.{◌⊎◌, inl, inr}
-use mathlib.Core.List.{List, [], ◌∷◌, ◌++◌, map, map-append}
+use mathlib.Core.List.{List, ◌∷◌, ◌++◌, map, map-append}
 use native.Mathlib.Decide.{dec_lt}
 use native.Mathlib.Omega.{arith}
-use lib.ListN.{length, take, replicate, length-append, length-take}
+use lib.ListN.{length, take, replicate, length-take}
 use Rattle.endian.specs.Numbers.{part}
 use Rattle.endian.proofs.Places.{part-take, part-append}
 use Rattle.wal.specs.Entry.{Entry, entry_of}
-use Rattle.wal.specs.Read.{length_at, whole_at, read_at}
+use Rattle.wal.specs.Read.{length_at, read_at}
 use Rattle.wal.specs.Walk.{file_of, views_from, views, end_from, end_of, ending_of, entries}
 use Rattle.wal.specs.declared.EntryView.{EntryView}
 use Rattle.wal.specs.declared.Reading.{Reading}

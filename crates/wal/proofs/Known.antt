@@ -1,13 +1,14 @@
 -- A walk over entries that are known to stand, by a reader with an enum answer: what an entry found tells, and what none tells. Assumes nothing.
+use Rattle.std.specs.Prelude.{Some, None}
 use Prim.Native.Nat.{ℕ, ◌+◌, ◌-◌, ◌≤◌, ◌<◌}
 use mathlib.Core.Path.{◌≡◌, refl, sym, ap, ◌∙◌, subst}
 use native.Mathlib.Omega.{arith}
 use mathlib.Core.List.{List, [], ◌∷◌}
 use mathlib.Core.Bool.{Bool, true, false}
 use lib.Dec.{ltb}
-use borrow.Author.Tests.{lt-ltb, le-ltb, ltb-true, ltb-false}
+use borrow.Author.Tests.{lt-ltb, ltb-true, ltb-false}
 use denote.Enum.Declared.{tag_of}
-use types.Run.{OneOf, miss}
+use types.Run.{OneOf}
 use Rattle.endian.specs.Pick.{pick}
 use Rattle.wal.specs.Read.{length_at, length_before, view, read_at}
 use Rattle.wal.specs.Walk.{end_of}
@@ -15,18 +16,11 @@ use Rattle.wal.specs.Prefix.{entry_in, Stands, Met, known_at, known_before}
 use Rattle.wal.specs.declared.EntryView.{EntryView}
 use Rattle.wal.specs.declared.Reading.{Reading}
 use Rattle.wal.specs.declared.Reading.TheVariants.{Whole, End}
-use Rattle.wal.specs.declared.Before.{Before}
-use Rattle.wal.specs.declared.Before.TheVariants.{Found, Nothing}
 use Rattle.wal.specs.contracts.Reading.{the_type}
-use Rattle.wal.specs.contracts.Before.{the_type as before-type}
 use Rattle.wal.proofs.WalkLaws.{not_end, into, missed}
 use Rattle.wal.proofs.Prefix.{Back, met-back, met-below, met_next, met-end}
 
 module _ (s : List ℕ) (p end : ℕ) where
-  pub known-end : end ≤ p → End ≡ known_at s p end
-  unfolding known_at
-  known-end h = simp (le-ltb _ _ h)
-
   pub known-whole : p < end → {v : EntryView} → v ≡ entry_in s p → Whole v ≡ known_at s p end
   unfolding known_at
   known-whole h e = simp (lt-ltb _ _ h) (ap Whole e)
@@ -34,10 +28,6 @@ module _ (s : List ℕ) (p end : ℕ) where
   -- the reading with its checksum, where the walk goes on
   pub known_read : p < end → Stands s p → known_at s p end ≡ read_at s p
   known_read h k = sym (known-whole h refl) ∙ sym k.is
-
-  -- both places are of the walk
-  pub known-met : Met s p → Met s end → p < end → Stands s p
-  known-met m n h = (met-below s m n h).stands
 
   -- `let Reading::Whole(v) = ..`
   pub known-found : {r : Reading} {v : EntryView} → r ≡ known_at s p end → r ≡ Whole v → (p < end) × (v ≡ entry_in s p)
@@ -48,22 +38,17 @@ module _ (s : List ℕ) (p end : ℕ) where
       (ltb-true _ _ a.0, cc)
 
   -- its `else`
-  pub known-stops : (r : Reading) → r ≡ known_at s p end → OneOf (1 ∷ 2 ∷ 3 ∷ 4 ∷ []) (tag_of the_type r) → end ≤ p
+  pub known-over : (r : Reading) → r ≡ known_at s p end → ((v : EntryView) → r ≡ Whole v → ⊥) → end ≤ p
   unfolding known_at
-  known-stops r h k = ltb-false _ _ (go (ltb p end) h)
+  known-over r h n = ltb-false _ _ (go (ltb p end) h)
     where
       go : (b : Bool) → r ≡ pick b (Whole (entry_in s p)) End → b ≡ false
-      go true e = absurd ((missed r k).1 (entry_in s p) e)
+      go true e = absurd (n (entry_in s p) e)
       go false e = refl
 
-module _ (s : List ℕ) (p : ℕ) where
-  pub known-first : p ≤ 32 → Nothing ≡ known_before s p
-  unfolding known_before
-  known-first h = simp (le-ltb _ _ h)
-
-  pub known-back : 32 < p → {q : ℕ} {v : EntryView} → q ≡ p - length_before s p → v ≡ entry_in s q → Found v ≡ known_before s p
-  unfolding known_before
-  known-back h e k = simp (lt-ltb _ _ h) (cc)
+  -- the same as a whole proof knows it: the variant's number is not 0
+  pub known-stops : (r : Reading) → r ≡ known_at s p end → OneOf (1 ∷ 2 ∷ 3 ∷ 4 ∷ []) (tag_of the_type r) → end ≤ p
+  known-stops r h k = known-over r h (missed r k).1
 
 -- ---- a turn of a walk to the end: the entry that was found, and the place behind it
 pub record Ahead (s : List ℕ) (p end : ℕ) (v : EntryView) : Type 0 where
@@ -96,11 +81,11 @@ pub record Behind (s : List ℕ) (p : ℕ) (v : EntryView) : Type 0 where
   pub is : v ≡ entry_in s v.place
   pub back : Back s p v.place
 
-pub behind-found : {s : List ℕ} {p : ℕ} → Met s p → {r : Before} {v : EntryView} → r ≡ known_before s p → r ≡ Found v → Behind s p v
+pub behind-found : {s : List ℕ} {p : ℕ} → Met s p → {v : EntryView} → Some v ≡ known_before s p → Behind s p v
 unfolding known_before view
-behind-found {s} {p} m {r} {v} h q = go (ltb 32 p) refl (sym h ∙ q)
+behind-found {s} {p} m {v} h = go (ltb 32 p) refl (sym h)
   where
-    go : (b : Bool) → ltb 32 p ≡ b → pick b (Found (entry_in s (p - length_before s p))) Nothing ≡ Found v → Behind s p v
+    go : (b : Bool) → ltb 32 p ≡ b → pick b (Some (entry_in s (p - length_before s p))) None ≡ Some v → Behind s p v
     go true t e =
         let i : entry_in s (p - length_before s p) ≡ v = cc in
         let w : p - length_before s p ≡ v.place = ap (λ (u : EntryView). u.place) i in
@@ -108,11 +93,10 @@ behind-found {s} {p} m {r} {v} h q = go (ltb 32 p) refl (sym h ∙ q)
     go false t e = let z : ◌≡◌ {A = ℕ} 0 1 = cc in absurd (omega arith)
 
 -- its `else`
-pub behind-stops : (s : List ℕ) (p : ℕ) (r : Before) → r ≡ known_before s p → OneOf (1 ∷ []) (tag_of before-type r) → p ≤ 32
+pub behind-stops : (s : List ℕ) (p : ℕ) → None ≡ known_before s p → p ≤ 32
 unfolding known_before
-behind-stops s p (Found v) h k = absurd (miss (1 ∷ []) 0 tt k)
-behind-stops s p Nothing h k = go (ltb 32 p) refl h
+behind-stops s p h = go (ltb 32 p) refl h
   where
-    go : (b : Bool) → ltb 32 p ≡ b → Nothing ≡ pick b (Found (entry_in s (p - length_before s p))) Nothing → p ≤ 32
+    go : (b : Bool) → ltb 32 p ≡ b → None ≡ pick b (Some (entry_in s (p - length_before s p))) None → p ≤ 32
     go true t e = let z : ◌≡◌ {A = ℕ} 0 1 = cc in absurd (omega arith)
     go false t e = ltb-false _ _ t

@@ -10,3 +10,4 @@ pub mod Files
 pub mod Endings
 pub mod Encoding
 pub mod ReaderLaws
+pub mod KindLaws

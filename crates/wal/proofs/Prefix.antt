@@ -7,18 +7,17 @@ use native.Mathlib.Decide.{dec_lt}
 use native.Mathlib.Omega.{arith}
 use lib.ListN.{length}
 use lib.Dec.{ltb}
-use borrow.Author.Tests.{lt-ltb, le-ltb, ltb-true, ltb-false}
+use borrow.Author.Tests.{lt-ltb, le-ltb}
 use Rattle.endian.specs.Pick.{pick}
 use Rattle.endian.specs.Numbers.{number_at}
-use Rattle.wal.specs.Entry.{Entry, size_of, entry_of}
+use Rattle.wal.specs.Entry.{entry_of}
 use Rattle.wal.specs.Read.{length_at, length_before, view, read_at}
 use Rattle.wal.specs.Walk.{views_from, end_from, views, end_of, entries}
 use Rattle.wal.specs.Prefix.{entry_in, said, Stands, up_to, Met, before, onward}
 use Rattle.wal.specs.declared.EntryView.{EntryView}
-use Rattle.wal.specs.declared.Reading.{Reading}
 use Rattle.wal.specs.declared.Reading.TheVariants.{Whole}
 use Rattle.wal.proofs.WalkLaws.{EntryAt, entry_at, Walk, done, step, walk, walk_is, walk_ends, next, none, end-from}
-use Rattle.wal.proofs.Places.{size-of, end-append}
+use Rattle.wal.proofs.Places.{end-append}
 
 -- ---- the entry at a place
 pub entry_in_lem : (s : List ℕ) (p : ℕ) {v : EntryView} → read_at s p ≡ Whole v → v ≡ entry_in s p

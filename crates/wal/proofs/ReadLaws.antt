@@ -1,4 +1,5 @@
 -- Which way reading goes, a law for each case. Assumes nothing.
+use Rattle.std.specs.Prelude.{None}
 use Prim.Native.Nat.{ℕ, ◌+◌, ◌-◌, ◌<◌, ◌≤◌}
 use mathlib.Core.Path.{◌≡◌, refl, sym, ◌∙◌}
 use mathlib.Core.List.{List}
@@ -6,7 +7,7 @@ use mathlib.Core.Bool.{Bool, true, false}
 use native.Mathlib.Omega.{arith}
 use lib.ListN.{length, drop}
 use lib.Dec.{ltb}
-use borrow.Author.Tests.{lt-ltb, le-ltb, le-leb, lt-leb, eq-eqb, ne_eqb}
+use borrow.Author.Tests.{lt-ltb, le-ltb, le-leb, lt-leb, eq-eqb}
 use Rattle.endian.specs.Pick.{pick}
 use Rattle.endian.specs.Numbers.{part, number_of, number_at}
 use Rattle.crc32c.specs.Crc.{crc32c}
@@ -15,7 +16,6 @@ use Rattle.wal.specs.Read.{log_limit, all_zero, length_at, key_len, old_len, new
 use Rattle.wal.specs.declared.EntryView.{EntryView}
 use Rattle.wal.specs.declared.Reading.{Reading}
 use Rattle.wal.specs.declared.Reading.TheVariants.{Whole, End, Torn, Unused, Damage}
-use Rattle.wal.specs.declared.Before.TheVariants.{Nothing}
 use Rattle.wal.proofs.Zeros.{number-other}
 
 -- ---- forward
@@ -67,27 +67,9 @@ past_end s p h = simp (le-leb _ _ h) (either (ltb p 32))
 
 -- ---- the n bytes at p
 module _ (s : List ℕ) (p n : ℕ) where
-  pub other_length : (length_at s p ≡ n → ⊥) → Damage ≡ whole_at s p n
+  pub sealed : length_at s p ≡ n → number_at 4 (p + (n - 4)) s ≡ n → number_at 4 (p + (n - 8)) s ≡ crc32c (part p (n - 8) s) → whole_at s p n ≡ inner_at s p n
   unfolding whole_at
-  other_length h = simp (ne_eqb _ _ h)
-
-  module _ (front : length_at s p ≡ n) where
-    pub ends-differ : (number_at 4 (p + (n - 4)) s ≡ n → ⊥) → Damage ≡ whole_at s p n
-    unfolding whole_at
-    ends-differ h = simp (eq-eqb _ _ front, ne_eqb _ _ h)
-
-    module _ (back : number_at 4 (p + (n - 4)) s ≡ n) where
-      pub bad_sum : (number_at 4 (p + (n - 8)) s ≡ crc32c (part p (n - 8) s) → ⊥) → Damage ≡ whole_at s p n
-      unfolding whole_at
-      bad_sum h = simp (eq-eqb _ _ front, eq-eqb _ _ back, ne_eqb _ _ h)
-
-      pub sealed : number_at 4 (p + (n - 8)) s ≡ crc32c (part p (n - 8) s) → whole_at s p n ≡ inner_at s p n
-      unfolding whole_at
-      sealed h = simp (eq-eqb _ _ front, eq-eqb _ _ back, eq-eqb _ _ h)
-
-  pub bad-inner : (43 + key_len s p + old_len s p + new_len s p ≡ n → ⊥) → Damage ≡ inner_at s p n
-  unfolding inner_at
-  bad-inner h = simp (ne_eqb _ _ h)
+  sealed front back sum = simp (eq-eqb _ _ front, eq-eqb _ _ back, eq-eqb _ _ sum)
 
   pub good-inner : 43 + key_len s p + old_len s p + new_len s p ≡ n → inner_at s p n ≡ Whole (view s p n)
   unfolding inner_at
@@ -98,65 +80,22 @@ module _ (s : List ℕ) (p : ℕ) {k o : ℕ} (ek : k ≡ key_len s p) (eo : o �
   pub is-old : o ≡ old_len s p
   is-old = cc
 
-  pub is-new : {w : ℕ} → w ≡ number_at 4 (p + (31 + k + o)) s → w ≡ new_len s p
-  is-new ew = cc is-old
-
 pub is_view : (s : List ℕ) (p n : ℕ) {k o w : ℕ} {v : EntryView} → v ≡ fields s p n k o w → k ≡ key_len s p → o ≡ old_len s p → w ≡ new_len s p → v ≡ view s p n
 unfolding view
 is_view s p n h ek eo ew = cc
 
 -- ---- backward
 module _ (s : List ℕ) (p : ℕ) where
-  pub too-near : p < 36 → Nothing ≡ read_before s p
+  pub too-near : p < 36 → None ≡ read_before s p
   unfolding read_before
   too-near h = simp (lt-ltb _ _ h)
 
-  module _ (from : 36 ≤ p) where
-    pub beyond : length s < p → Nothing ≡ read_before s p
+  module _ (from : 36 ≤ p) (to : p ≤ length s) (low : 43 ≤ length_before s p) (high : length_before s p ≤ 32705) where
+    pub whole_before : length_before s p ≤ p - 32 → {n : ℕ} {r : Reading} → n ≡ length_before s p → r ≡ whole_at s (p - n) n → read_before s p ≡ found r
     unfolding read_before
-    beyond h = simp (le-ltb _ _ from, lt-ltb _ _ h)
-
-    module _ (to : p ≤ length s) where
-      -- four bytes stand before p: the length decides
-      last : read_before s p ≡
-          pick (ltb (length_before s p) 43) Nothing (pick (ltb 32705 (length_before s p)) Nothing (pick (ltb (p - 32) (length_before s p)) Nothing (found (whole_at s (p - length_before s p) (length_before s p)))))
-      unfolding read_before
-      last = simp (le-ltb _ _ from, le-ltb _ _ to)
-
-      pub low-before : length_before s p < 43 → Nothing ≡ read_before s p
-      low-before h = sym (last ∙ simp (lt-ltb _ _ h))
-
-      pub high-before : 32705 < length_before s p → Nothing ≡ read_before s p
-      high-before h = sym (last ∙ simp (le-ltb (length_before s p) 43 (omega arith), lt-ltb _ _ h))
-
-      module _ (low : 43 ≤ length_before s p) (high : length_before s p ≤ 32705) where
-        pub reaches-out : p - 32 < length_before s p → Nothing ≡ read_before s p
-        reaches-out h = sym (last ∙ simp (le-ltb _ _ low, le-ltb _ _ high, lt-ltb _ _ h))
-
-        pub whole_before : length_before s p ≤ p - 32 → {n : ℕ} {r : Reading} → n ≡ length_before s p → r ≡ whole_at s (p - n) n → read_before s p ≡ found r
-        whole_before h e q = last ∙ simp (le-ltb _ _ low, le-ltb _ _ high, le-ltb _ _ h) (cc)
+    whole_before h e q = simp (le-ltb _ _ from, le-ltb _ _ to, le-ltb _ _ low, le-ltb _ _ high, le-ltb _ _ h) (cc)
 
 -- ---- the header
-module _ (s : List ℕ) where
-  pub too_long : log_limit < length s → 2 ≡ header_fault s
-  unfolding header_fault
-  too_long h = simp (lt-ltb _ _ h)
-
-  module _ (fits : length s ≤ log_limit) where
-    pub too_short : length s < 32 → 3 ≡ header_fault s
-    unfolding header_fault
-    too_short h = simp (le-ltb _ _ fits, lt-ltb _ _ h)
-
-    module _ (room : 32 ≤ length s) where
-      pub other-mark : (number_at 4 0 s ≡ number_of mark → ⊥) → 3 ≡ header_fault s
-      unfolding header_fault
-      other-mark h = simp (le-ltb _ _ fits, le-ltb _ _ room, ne_eqb _ _ h)
-
-      module _ (marked : number_at 4 0 s ≡ number_of mark) where
-        pub other-version : (number_at 2 4 s ≡ 1 → ⊥) → 3 ≡ header_fault s
-        unfolding header_fault
-        other-version h = simp (le-ltb _ _ fits, le-ltb _ _ room, eq-eqb _ _ marked, ne_eqb _ _ h)
-
-        pub right-header : number_at 2 4 s ≡ 1 → 0 ≡ header_fault s
-        unfolding header_fault
-        right-header h = simp (le-ltb _ _ fits, le-ltb _ _ room, eq-eqb _ _ marked, eq-eqb _ _ h)
+pub right-header : (s : List ℕ) → length s ≤ log_limit → 32 ≤ length s → number_at 4 0 s ≡ number_of mark → number_at 2 4 s ≡ 1 → 0 ≡ header_fault s
+unfolding header_fault
+right-header s fits room marked version = simp (le-ltb _ _ fits, le-ltb _ _ room, eq-eqb _ _ marked, eq-eqb _ _ version)

@@ -1,5 +1,6 @@
 -- What is known where an entry is found, and the walk without its fuel: a turn, and the last turn. Assumes nothing.
-use Prim.Native.Nat.{ℕ, zero, suc, ◌+◌, ◌-◌, ◌<◌, ◌≤◌}
+use Rattle.std.specs.Prelude.{None}
+use Prim.Native.Nat.{ℕ, zero, suc, ◌+◌, ◌-◌, ◌≤◌}
 use mathlib.Core.Path.{◌≡◌, refl, sym, ap, ◌∙◌}
 use mathlib.Core.List.{List, [], ◌∷◌}
 use mathlib.Core.Bool.{Bool, true, false}
@@ -17,7 +18,6 @@ use Rattle.wal.specs.Walk.{followed, scan, views_from, end_from}
 use Rattle.wal.specs.declared.EntryView.{EntryView}
 use Rattle.wal.specs.declared.Reading.{Reading}
 use Rattle.wal.specs.declared.Reading.TheVariants.{Whole, End, Torn, Unused, Damage}
-use Rattle.wal.specs.declared.Before.TheVariants.{Nothing}
 use Rattle.wal.specs.contracts.Reading.{the_type}
 use Rattle.wal.proofs.ReadLaws.{past_end, whole, sealed, good-inner}
 
@@ -178,7 +178,7 @@ pub none : (s : List ℕ) (p : ℕ) → ((v : EntryView) → read_at s p ≡ Who
 none s p n = walk_is (done n)
 
 -- as the `else` of `let Reading::Whole(v) = .. else` knows it: the variant's number is not 0
-pub missed : (r : Reading) → OneOf (1 ∷ 2 ∷ 3 ∷ 4 ∷ []) (tag_of the_type r) → (found r ≡ Nothing) × ((v : EntryView) → r ≡ Whole v → ⊥)
+pub missed : (r : Reading) → OneOf (1 ∷ 2 ∷ 3 ∷ 4 ∷ []) (tag_of the_type r) → (found r ≡ None) × ((v : EntryView) → r ≡ Whole v → ⊥)
 missed (Whole v) k = absurd (miss (1 ∷ 2 ∷ 3 ∷ 4 ∷ []) 0 tt k)
 missed End k = (refl, λ v. not_end)
 missed Torn k = (refl, λ v. not-torn)

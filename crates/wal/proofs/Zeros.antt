@@ -1,15 +1,18 @@
 -- Bytes that are all zero: the numbers that stand in them, a front of them, and what is left behind it. Assumes nothing.
+use Rattle.std.specs.Prelude.{◌/◌, IsTrue, EachIndex, ◌↔◌}
+use Rattle.std.specs.Simd.{first_chunks}
 use Prim.Native.Nat.{ℕ, zero, suc, ◌+◌, ◌-◌, ◌*◌, ◌≤◌, ◌<◌}
 use mathlib.Core.Path.{◌≡◌, refl, sym, ap, ◌∙◌}
 use mathlib.Core.List.{List, [], ◌∷◌, ◌++◌}
 use mathlib.Core.Bool.{Bool, true, false}
 use native.Mathlib.Omega.{arith}
-use lib.ListN.{length, take, drop, replicate, length-drop}
+use lib.ListN.{length, get_or, take, drop, replicate, length-drop}
 use lib.Dec.{eqb}
 use lib.Seq.{drop-append-le, drop-append-add, drop-drop}
 use borrow.Author.Tests.{eqb-true, eqb-false, eq-eqb, ne_eqb}
 use Rattle.endian.specs.Pick.{pick}
 use Rattle.endian.specs.Numbers.{number_of, number_at}
+use Rattle.endian.proofs.Places.{number-take, number-drop}
 use Rattle.wal.specs.Read.{all_zero}
 
 false-true : {A : Type 0} → false ≡ true → A
@@ -63,10 +66,6 @@ front-other w l n = go (all_zero l) refl
 
 -- ---- the bytes from a place on
 module _ (s : List ℕ) (p : ℕ) where
-  pub number-zero : (w : ℕ) → all_zero (drop p s) ≡ true → number_at w p s ≡ 0
-  unfolding number_at
-  number-zero w h = zero_number w (drop p s) h
-
   pub number-other : (w : ℕ) → (number_at w p s ≡ 0 → ⊥) → all_zero (drop p s) ≡ false
   unfolding number_at
   number-other w n = front-other w (drop p s) n
@@ -105,3 +104,45 @@ unfolding number_at
 number-zeros w q z a h =
     let e : q ≡ length a + (q - length a) = omega arith in
     rw (e, drop-append-add a (replicate z 0) (q - length a)) (zero_number w (drop (q - length a) (replicate z 0)) (zeros-drop (q - length a) (replicate z 0) (zeros z)))
+
+-- ---- eight at a time
+
+chunk-at : (n k i : ℕ) (l : List ℕ) → i < k → get_or (first_chunks n k l) i [] ≡ take n (drop (i * n) l)
+chunk-at n zero i l h = absurd (omega arith)
+chunk-at n (suc k) zero l h = let z : 0 * n ≡ 0 = omega arith in rw z
+chunk-at n (suc k) (suc i) l h = chunk-at n k i (drop n l) (omega arith) ∙ ap (take n) (drop-drop (i * n) n l ∙ ap (λ (j : ℕ). drop j l) (omega arith))
+
+module _ (l : List ℕ) {eights : List (List ℕ)} (f : eights ≡ first_chunks 8 (length l / 8) l) (i : ℕ) (h : i < length l / 8) {n : ℕ} (e : n ≡ number_at 8 0 (get_or eights i [])) where
+  read : n ≡ number_at 8 (i * 8) l
+  read =
+      e ∙ ap (λ (es : List (List ℕ)). number_at 8 0 (get_or es i [])) f ∙ ap (number_at 8 0) (chunk-at 8 (length l / 8) i l h) ∙ number-take 8 0 8 (drop (i * 8) l) (omega arith)
+      ∙ number-drop 8 0 (i * 8) l ∙ ap (λ (j : ℕ). number_at 8 j l) (omega arith)
+
+  pub eight-on : n ≡ 0 → all_zero (drop ((i + 1) * 8) l) ≡ all_zero (drop (i * 8) l)
+  eight-on z = ap (λ (j : ℕ). all_zero (drop j l)) (omega arith) ∙ number-on l (i * 8) 8 (omega arith) (sym read ∙ z)
+
+  pub eight-other : (n ≡ 0 → ⊥) → all_zero (drop (i * 8) l) ≡ false
+  eight-other z = number-other l (i * 8) 8 (λ q. z (read ∙ q))
+
+-- what a test of each byte tells
+each-zero : (l : List ℕ) → all_zero l ≡ true → EachIndex l (λ k. get_or l k 0 ≡ 0)
+unfolding all_zero
+each-zero [] h = λ k m. absurd (omega arith)
+each-zero (b ∷ l) h = let z = unfolds b l h in go z.0 (each-zero l z.1)
+  where
+    go : b ≡ 0 → EachIndex l (λ k. get_or l k 0 ≡ 0) → (k : ℕ) → k < suc (length l) → get_or (b ∷ l) k 0 ≡ 0
+    go z more zero m = z
+    go z more (suc k) m = more k (omega arith)
+
+zero-each : (l : List ℕ) → EachIndex l (λ k. get_or l k 0 ≡ 0) → all_zero l ≡ true
+unfolding all_zero
+zero-each [] h = refl
+zero-each (b ∷ l) h = rw (eq-eqb b 0 (h 0 (omega arith))) (zero-each l (λ k m. h (suc k) (omega arith)))
+
+pub tested : (l : List ℕ) (b : Bool) → IsTrue b ↔ EachIndex l (λ k. get_or l k 0 ≡ 0) → b ≡ all_zero l
+tested l true h = sym (zero-each l (h.0 refl))
+tested l false h = go (all_zero l) refl
+  where
+    go : (c : Bool) → all_zero l ≡ c → false ≡ all_zero l
+    go true e = false-true (h.1 (each-zero l e))
+    go false e = sym e

@@ -1,4 +1,5 @@
 pub mod Entry
+pub mod Kind
 pub mod Read
 pub mod Walk
 pub mod Prefix

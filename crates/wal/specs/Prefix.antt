@@ -1,5 +1,5 @@
 -- Internal: the places that the walk comes by, and the entries before such a place and from it on.
-use Rattle.std.specs.Prelude.{ℕ, ◌+◌, ◌-◌, ◌≡◌, List, [], ◌∷◌, map, ltb}
+use Rattle.std.specs.Prelude.{ℕ, ◌+◌, ◌-◌, ◌≡◌, List, [], ◌∷◌, map, ltb, Option, Some, None}
 use Rattle.endian.specs.Pick.{pick}
 use Rattle.wal.specs.Entry.{Entry, entry_of}
 use Rattle.wal.specs.Read.{first, length_at, length_before, view, read_at}
@@ -7,8 +7,6 @@ use Rattle.wal.specs.Walk.{views_from, end_from, views}
 use Rattle.wal.specs.declared.EntryView.{EntryView}
 use Rattle.wal.specs.declared.Reading.{Reading}
 use Rattle.wal.specs.declared.Reading.TheVariants.{Whole, End}
-use Rattle.wal.specs.declared.Before.{Before}
-use Rattle.wal.specs.declared.Before.TheVariants.{Found, Nothing}
 
 -- the entry at p by the length that stands there, and what it says
 abbrev pub entry_in : List ℕ → ℕ → EntryView
@@ -26,8 +24,8 @@ unfoldable pub known_at : List ℕ → ℕ → ℕ → Reading
 known_at s p end = pick (ltb p end) (Whole (entry_in s p)) End
 
 -- the same backward, to the first entry
-unfoldable pub known_before : List ℕ → ℕ → Before
-known_before s p = pick (ltb first p) (Found (entry_in s (p - length_before s p))) Nothing
+unfoldable pub known_before : List ℕ → ℕ → Option EntryView
+known_before s p = pick (ltb first p) (Some (entry_in s (p - length_before s p))) None
 
 -- those of some entries that start before p, where the first starts at `at`
 unfoldable pub up_to : ℕ → ℕ → List EntryView → List EntryView

@@ -1,5 +1,5 @@
 -- What stands at a place of a log, forward and backward (paper 01, Log; paper 02, W11).
-use Rattle.std.specs.Prelude.{ℕ, ◌+◌, ◌-◌, List, [], ◌∷◌, Bool, true, false, length, drop, ltb, leb, eqb}
+use Rattle.std.specs.Prelude.{ℕ, ◌+◌, ◌-◌, List, [], ◌∷◌, Bool, true, false, length, drop, ltb, leb, eqb, Option, Some, None}
 use Rattle.refusals.specs.Refusal.{log_too_long, log_header}
 use Rattle.endian.specs.Pick.{pick}
 use Rattle.endian.specs.Numbers.{part, number_of, number_at}
@@ -8,8 +8,6 @@ use Rattle.wal.specs.Entry.{mark}
 use Rattle.wal.specs.declared.EntryView.{EntryView}
 use Rattle.wal.specs.declared.Reading.{Reading}
 use Rattle.wal.specs.declared.Reading.TheVariants.{Whole, End, Torn, Unused, Damage}
-use Rattle.wal.specs.declared.Before.{Before}
-use Rattle.wal.specs.declared.Before.TheVariants.{Found, Nothing}
 
 -- ---- limits
 
@@ -92,25 +90,25 @@ read_at s p =
     (whole_at s p (length_at s p))))))))
 
 -- the entry of a reading, if it is one
-abbrev pub found : Reading → Before
-found (Whole v) = Found v
-found End = Nothing
-found Torn = Nothing
-found Unused = Nothing
-found Damage = Nothing
+abbrev pub found : Reading → Option EntryView
+found (Whole v) = Some v
+found End = None
+found Torn = None
+found Unused = None
+found Damage = None
 
 -- the length that stands at the end of an entry that ends at p
 abbrev pub length_before : List ℕ → ℕ → ℕ
 length_before s p = number_at 4 (p - 4) s
 
 -- a step backward from p: the entry that ends there and is whole, never reaching before the first entry
-unfoldable pub read_before : List ℕ → ℕ → Before
+unfoldable pub read_before : List ℕ → ℕ → Option EntryView
 read_before s p =
-    pick (ltb p (first + 4)) Nothing
-    (pick (ltb (length s) p) Nothing
-    (pick (ltb (length_before s p) shortest) Nothing
-    (pick (ltb longest (length_before s p)) Nothing
-    (pick (ltb (p - first) (length_before s p)) Nothing
+    pick (ltb p (first + 4)) None
+    (pick (ltb (length s) p) None
+    (pick (ltb (length_before s p) shortest) None
+    (pick (ltb longest (length_before s p)) None
+    (pick (ltb (p - first) (length_before s p)) None
     (found (whole_at s (p - length_before s p) (length_before s p)))))))
 
 -- ---- the file header: refusal 2 where the log is too long, 3 where its header is short or wrong, else 0

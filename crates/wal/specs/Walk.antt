@@ -1,12 +1,12 @@
 -- The entries of a log, from a place on, and the place where they end (paper 01, Log; paper 02, W11).
-use Rattle.std.specs.Prelude.{ℕ, zero, suc, ◌+◌, List, [], ◌∷◌, ◌++◌, map, length, take, replicate}
+use Rattle.std.specs.Prelude.{ℕ, zero, suc, ◌+◌, List, [], ◌∷◌, ◌++◌, map, length, take, replicate, Option, Some, None}
 use Rattle.wal.specs.Entry.{Entry, entry_of}
 use Rattle.wal.specs.Read.{read_at, read_before, first}
+use Rattle.wal.specs.declared.Ending.{Ending}
+use Rattle.wal.specs.declared.Ending.TheVariants as ending
 use Rattle.wal.specs.declared.EntryView.{EntryView}
 use Rattle.wal.specs.declared.Reading.{Reading}
 use Rattle.wal.specs.declared.Reading.TheVariants.{Whole, End, Torn, Unused, Damage}
-use Rattle.wal.specs.declared.Before.{Before}
-use Rattle.wal.specs.declared.Before.TheVariants.{Found, Nothing}
 
 -- an entry and those that follow it; none where there is none
 abbrev pub followed : Reading → (EntryView → List EntryView) → List EntryView
@@ -49,6 +49,12 @@ ending_number Torn = 1
 ending_number Unused = 2
 ending_number Damage = 0
 
+-- the number of an ending that is one
+abbrev pub number_of_ending : Ending → ℕ
+number_of_ending ending.Exact = 0
+number_of_ending ending.Torn = 1
+number_of_ending ending.Unused = 2
+
 -- what the entries say
 abbrev pub entries : List ℕ → List Entry
 entries s = map (entry_of s) (views s)
@@ -58,9 +64,9 @@ abbrev pub file_of : List ℕ → ℕ → ℕ → List ℕ
 file_of log c z = take c log ++ replicate z 0
 
 -- ---- backward: at most `fuel` steps from p
-abbrev pub preceded : Before → (EntryView → List EntryView) → List EntryView
-preceded (Found v) more = v ∷ more v
-preceded Nothing more = []
+abbrev pub preceded : Option EntryView → (EntryView → List EntryView) → List EntryView
+preceded (Some v) more = v ∷ more v
+preceded None more = []
 
 unfoldable pub backward : ℕ → List ℕ → ℕ → List EntryView
 backward zero s p = []

@@ -1,22 +1,21 @@
 // The same over lent checksum tables, and readers for callers that know an entry to stand there.
-ghost use Rattle.std.specs.Prelude.{◌≡◌, ◌+◌, ◌-◌, ◌≤◌, ◌<◌, length, drop};
+ghost use Rattle.std.specs.Simd.{first_chunks};
+ghost use Rattle.std.specs.Prelude.{◌≡◌, ◌/◌, ◌*◌, ◌+◌, ◌-◌, ◌≤◌, ◌<◌, length, drop};
 ghost use Rattle.endian.specs.Numbers.{part};
 ghost use Rattle.crc32c.specs.Crc.{crc32c as crc_of};
-ghost use Rattle.crc32c.specs.Tables.{Tables};
 ghost use Rattle.wal.specs.Read.{fields, all_zero, inner_at, whole_at, read_at, read_before, length_before};
-ghost use Rattle.wal.specs.Walk.{end_of, ending_of, ending_number};
+ghost use Rattle.wal.specs.Walk.{end_of, ending_of, ending_number, number_of_ending};
 ghost use Rattle.wal.specs.declared.Reading.TheVariants.{Damage};
 ghost use Rattle.wal.specs.Prefix.{Stands, Met, entry_in, known_at, known_before};
 
-use crate::{Before, EntryView, FIRST, LONGEST, Reading, SHORTEST};
+use crate::{Ending, EntryView, FIRST, LONGEST, Reading, SHORTEST};
 use crc32c::inner::Tables;
-use endian::inner::{short_at, u16_at, u32_at, u64_at};
+use endian::inner::{u16_at, u32_at, u64_at};
 use endian::{Lsn, TxnNumber};
 
 // The checksum of the n bytes at place.
 fn sum_of(t: &Tables, log: &[u8], place: usize, n: usize) -> u32
-    requires tables { Tables t.now }
-    requires n_in_bounds { place + n ≤ length log.now }
+    requires { place + n ≤ length log.now }
     ensures { result ≡ crc_of (part place n log.now) }
 {
     let end = place + n;
@@ -35,24 +34,23 @@ fn fields_at(
     requires { place + 25 ≤ length log.now }
     ensures { result ≡ fields log.now place n key_len old_len new_len }
 {
-    let kind = log[place + 20];
     EntryView {
-        place: place,
+        place,
         length: n,
         lsn: Lsn(u64_at(log, place + 4)),
         txn: TxnNumber(u64_at(log, place + 12)),
-        kind: kind,
+        kind: log[place + 20],
         table: u32_at(log, place + 21),
-        key_len: key_len,
-        old_len: old_len,
-        new_len: new_len,
+        key_len,
+        old_len,
+        new_len,
     }
 }
 
 // The n bytes at place as an entry.
+#[tactic(auto, unfolding(crate::specs::Read::whole_at))]
 fn whole_at(t: &Tables, log: &[u8], place: usize, n: usize) -> Reading
-    requires tables { Tables t.now }
-    requires le_n { (43 ≤ n) × (n ≤ 32705) × (place + n ≤ length log.now) }
+    requires { (43 ≤ n) × (n ≤ 32705) × (place + n ≤ length log.now) }
     ensures { result ≡ whole_at log.now place n }
 {
     if u32_at(log, place) as usize != n {
@@ -68,6 +66,7 @@ fn whole_at(t: &Tables, log: &[u8], place: usize, n: usize) -> Reading
 }
 
 // The n bytes at place as an entry, once its outer lengths and its checksum are known to be right.
+#[tactic(auto, unfolding(crate::specs::Read::inner_at, crate::specs::Read::view))]
 fn inner_lengths(log: &[u8], place: usize, n: usize) -> Reading
     requires { (43 ≤ n) × (n ≤ 32705) × (place + n ≤ length log.now) }
     ensures { result ≡ inner_at log.now place n }
@@ -88,24 +87,31 @@ fn inner_lengths(log: &[u8], place: usize, n: usize) -> Reading
     Reading::Whole(fields_at(log, place, n, key_len, old_len, new_len))
 }
 
-// Whether all bytes from `from` on are zero, eight at a time.
-fn zero_from(log: &[u8], from: usize) -> bool
-    requires { from ≤ length log.now }
-    ensures { result ≡ all_zero (drop from log.now) }
+// Bytes by eights, and those that are left. A function of its own: with as_chunks in the function that has the loop, the proof did not close.
+fn by_eights(s: &[u8]) -> (&[[u8; 8]], &[u8])
+    ensures front { result.0.now ≡ first_chunks 8 (length s.now / 8) s.now }
+    ensures len { length result.0.now ≡ length s.now / 8 }
+    ensures back { result.1.now ≡ drop (length s.now / 8 * 8) s.now }
 {
-    let mut at = from;
-    while log.len() - at >= 8 {
-        if u64_at(log, at) != 0 {
+    s.as_chunks::<8>()
+}
+
+// Whether all bytes are zero, eight at a time.
+fn is_zero(s: &[u8]) -> bool
+    ensures { result ≡ all_zero s.now }
+{
+    let (eights, rest) = by_eights(s);
+    for eight in eights {
+        if u64_at(eight, 0) != 0 {
             return false;
         }
-        at = at + 8;
     }
-    short_at(log, at) == 0
+    rest.iter().all(|b| *b == 0)
 }
 
 // What stands at place.
+#[tactic(auto, unfolding(crate::specs::Read::read_at))]
 pub fn entry_at(t: &Tables, log: &[u8], place: usize) -> Reading
-    requires { Tables t.now }
     ensures { result ≡ read_at log.now place }
 {
     if place < FIRST {
@@ -120,7 +126,7 @@ pub fn entry_at(t: &Tables, log: &[u8], place: usize) -> Reading
     }
     let n = u32_at(log, place) as usize;
     if n < SHORTEST {
-        if zero_from(log, place) {
+        if is_zero(&log[place..]) {
             return Reading::Unused;
         }
         return Reading::Damage;
@@ -135,65 +141,62 @@ pub fn entry_at(t: &Tables, log: &[u8], place: usize) -> Reading
 }
 
 // The entry that ends at place, if a whole one does.
-pub fn entry_before(t: &Tables, log: &[u8], place: usize) -> Before
-    requires { Tables t.now }
+#[tactic(auto, unfolding(crate::specs::Read::read_before))]
+pub fn entry_before(t: &Tables, log: &[u8], place: usize) -> Option<EntryView>
     ensures { result ≡ read_before log.now place }
 {
     if place < FIRST + 4 {
-        return Before::Nothing;
+        return None;
     }
     if log.len() < place {
-        return Before::Nothing;
+        return None;
     }
     let n = u32_at(log, place - 4) as usize;
     if n < SHORTEST {
-        return Before::Nothing;
+        return None;
     }
     if n > LONGEST {
-        return Before::Nothing;
+        return None;
     }
     if place - FIRST < n {
-        return Before::Nothing;
+        return None;
     }
     let Reading::Whole(v) = whole_at(t, log, place - n, n) else {
-        return Before::Nothing;
+        return None;
     };
-    Before::Found(v)
+    Some(v)
 }
 
 // The place where the walk from the first entry ends.
 pub fn end_of(t: &Tables, log: &[u8]) -> usize
-    requires { Tables t.now }
     ensures { result ≡ end_of log.now }
 {
     let mut at = FIRST;
-    loop {
-        let Reading::Whole(v) = entry_at(t, log, at) else {
-            return at;
-        };
-        at = at + v.length;
+    while let Reading::Whole(v) = entry_at(t, log, at) {
+        at += v.length;
     }
+    at
 }
 
-// The number of the ending of a log that meets no damage, at the place where its walk ends: 0 exact end, 1 torn, 2 unused.
-pub fn ending_at(log: &[u8], place: usize) -> u64
-    requires place_value { place ≡ end_of log.now }
-    requires fact { ending_of log.now ≡ Damage → ⊥ }
-    ensures { result ≡ ending_number (ending_of log.now) }
+// The ending of a log that meets no damage, at the place where its walk ends.
+pub fn ending_at(log: &[u8], place: usize) -> Ending
+    requires place { place ≡ end_of log.now }
+    requires undamaged { ending_of log.now ≡ Damage → ⊥ }
+    ensures { number_of_ending result ≡ ending_number (ending_of log.now) }
 {
     if log.len() <= place {
-        return 0;
+        return Ending::Exact;
     }
     if log.len() - place < 4 {
-        return 1;
+        return Ending::Torn;
     }
     if u32_at(log, place) == 0 {
-        return 2;
+        return Ending::Unused;
     }
-    1
+    Ending::Torn
 }
 
-// The entry that is known to stand at place, and no checksum.
+// The entry that is known to stand at place, and no checksum. That it stands there is asked by a clause here and above, and not by a type: a place in a log is a bare number in every array that keeps places.
 pub fn standing(log: &[u8], place: usize) -> EntryView
     requires { Stands log.now place }
     ensures { result ≡ entry_in log.now place }
@@ -205,7 +208,8 @@ pub fn standing(log: &[u8], place: usize) -> EntryView
     fields_at(log, place, n, key_len, old_len, new_len)
 }
 
-// The entry that is known to stand at place where the walk goes on to end, and no checksum.
+// The entry that is known to stand at place where the walk goes on to end, and no checksum. It answers a Reading and no Option: law Known.known_read says that it is what entry_at reads.
+#[tactic(auto, unfolding(crate::specs::Prefix::known_at))]
 pub fn known_at(log: &[u8], place: usize, end: usize) -> Reading
     requires { place < end → Stands log.now place }
     ensures { result ≡ known_at log.now place end }
@@ -226,12 +230,13 @@ pub fn place_before(log: &[u8], place: usize) -> usize
 }
 
 // The entry that is known to end at place, unless that is where the walk began, and no checksum.
-pub fn known_before(log: &[u8], place: usize) -> Before
+#[tactic(auto, unfolding(crate::specs::Prefix::known_before))]
+pub fn known_before(log: &[u8], place: usize) -> Option<EntryView>
     requires { Met log.now place }
     ensures { result ≡ known_before log.now place }
 {
     if place <= FIRST {
-        return Before::Nothing;
+        return None;
     }
-    Before::Found(standing(log, place_before(log, place)))
+    Some(standing(log, place_before(log, place)))
 }

@@ -5,8 +5,10 @@ ghost use Rattle.std.specs.Prelude.{◌≤◌};
 
 use crate::trip::there_and_back;
 use endian::{put_u16, put_u32, put_u64};
-use std::io;
-use wal::{Before, EntryView, Reading};
+use refusals::Refusal;
+use std::{fmt, io};
+use wal::reader::{backward_at, forward_at, kept_part, opened_at};
+use wal::{EntryView, Kind, Reading, end_of, entry_at, header_fault};
 
 mod trip;
 
@@ -34,12 +36,12 @@ fn seal(log: &mut [u8], place: u16, n: u16) {
 }
 
 // An LSN, a transaction, a type and a table for the entry at place.
-fn put_fields(log: &mut [u8], place: usize, kind: u8)
+fn put_fields(log: &mut [u8], place: usize, kind: Kind)
     requires { place ≤ 65535 }
 {
     put_u64(log, place + 4, 0x0102_0304_0506_0708);
     put_u64(log, place + 12, 0x1112_1314_1516_1718);
-    put_u16(log, place + 20, kind as u16);
+    put_u16(log, place + 20, kind.number() as u16);
     put_u32(log, place + 21, 0x2122_2324);
 }
 
@@ -54,7 +56,7 @@ fn put_inner(log: &mut [u8], place: usize, key: u8, old: u8, new: u8)
 }
 
 // A sealed entry of 43 bytes and a key, an old and a new value of so many; what these hold is as it was.
-fn put_entry(log: &mut [u8], place: u16, kind: u8, key: u8, old: u8, new: u8) {
+fn put_entry(log: &mut [u8], place: u16, kind: Kind, key: u8, old: u8, new: u8) {
     let n = 43 + key as u16 + old as u16 + new as u16;
     let at = place as usize;
     put_u32(log, at, n as u32);
@@ -65,58 +67,88 @@ fn put_entry(log: &mut [u8], place: u16, kind: u8, key: u8, old: u8, new: u8) {
 
 // ---- what is found
 
-fn print_numbers(rt: &impl Print, v: EntryView) -> io::Result<()> {
-    print!(rt;
-        " lsn {} transaction {} type {} table {}",
-        v.lsn.0, v.txn.0, v.kind, v.table
-    )
-}
+// What is read forward, as it is printed.
+#[derive(Clone, Copy)]
+struct Ahead(Reading);
 
-fn print_entry(rt: &impl Print, v: EntryView) -> io::Result<()> {
-    print!(rt; " entry at {} of {}", v.place, v.length)?;
-    print_numbers(rt, v)?;
-    print!(rt; " key {} old {} new {}", v.key_len, v.old_len, v.new_len)
-}
+// What is read backward, as it is printed.
+#[derive(Clone, Copy)]
+struct Behind(Option<EntryView>);
 
-fn print_reading(rt: &impl Print, found: Reading) -> io::Result<()> {
-    match found {
-        Reading::Whole(v) => print_entry(rt, v)?,
-        Reading::End => print!(rt; " exact end")?,
-        Reading::Torn => print!(rt; " torn tail")?,
-        Reading::Unused => print!(rt; " unused")?,
-        Reading::Damage => print!(rt; " damage")?,
+// An entry, as it is printed.
+#[derive(Clone, Copy)]
+struct Entry(EntryView);
+
+impl fmt::Display for Ahead {
+    fn fmt<W: fmt::Write>(&self, f: &mut fmt::Formatter<W>) -> fmt::Result {
+        match self.0 {
+            Reading::Whole(v) => write!(f, "{}", Entry(v)),
+            Reading::End => f.write_str("exact end"),
+            Reading::Torn => f.write_str("torn tail"),
+            Reading::Unused => f.write_str("unused"),
+            Reading::Damage => f.write_str("damage"),
+        }
     }
-    println!(rt)
 }
 
-fn print_before(rt: &impl Print, found: Before) -> io::Result<()> {
-    match found {
-        Before::Found(v) => print_reading(rt, Reading::Whole(v)),
-        Before::Nothing => println!(rt; " none"),
+impl fmt::Display for Behind {
+    fn fmt<W: fmt::Write>(&self, f: &mut fmt::Formatter<W>) -> fmt::Result {
+        match self.0 {
+            Some(v) => write!(f, "{}", Entry(v)),
+            None => f.write_str("none"),
+        }
+    }
+}
+
+impl fmt::Display for Entry {
+    fn fmt<W: fmt::Write>(&self, f: &mut fmt::Formatter<W>) -> fmt::Result {
+        let v = self.0;
+        write!(
+            f,
+            "entry at {} of {} lsn {} transaction {}",
+            v.place, v.length, v.lsn.0, v.txn.0
+        )?;
+        write!(
+            f,
+            " type {} table {} key {} old {} new {}",
+            v.kind, v.table, v.key_len, v.old_len, v.new_len
+        )
     }
 }
 
 // A step forward, and the place after it.
-fn forward(rt: &impl Print, log: &[u8], at: usize) -> io::Result<usize> {
-    let step = wal::reader::forward_at(log, at);
-    print!(rt; "  forward from {at}:")?;
-    print_reading(rt, step.found)?;
-    Ok(step.place)
+fn forward(rt: &impl Print, log: &[u8], from: usize) -> io::Result<usize> {
+    let mut at = from;
+    let found = forward_at(log, &mut at);
+    println!(rt; "  forward from {from}: {}", Ahead(found))?;
+    Ok(at)
 }
 
 // A step backward, and the place after it.
-fn backward(rt: &impl Print, log: &[u8], at: usize) -> io::Result<usize> {
-    let step = wal::reader::backward_at(log, at);
-    print!(rt; "  backward from {at}:")?;
-    print_before(rt, step.found)?;
-    Ok(step.place)
+fn backward(rt: &impl Print, log: &[u8], from: usize) -> io::Result<usize> {
+    let mut at = from;
+    let found = backward_at(log, &mut at);
+    println!(rt; "  backward from {from}: {}", Behind(found))?;
+    Ok(at)
+}
+
+// The number of a refusal, 0 for none.
+fn number(refusal: Option<Refusal>) -> u64 {
+    match refusal {
+        Some(e) => e.number(),
+        None => 0,
+    }
 }
 
 // The refusal of the header, the end of the walk and what stands there.
 fn show(rt: &impl Print, name: &str, log: &[u8]) -> io::Result<()> {
-    let end = wal::end_of(log);
-    print!(rt; "{name}: number {}, end {end},", wal::header_fault(log))?;
-    print_reading(rt, wal::entry_at(log, end))
+    let refusal = header_fault(log).err();
+    let end = end_of(log);
+    println!(rt;
+        "{name}: number {}, end {end}, {}",
+        number(refusal),
+        Ahead(entry_at(log, end))
+    )
 }
 
 // The same of its first n bytes.
@@ -131,22 +163,19 @@ fn show_first(rt: &impl Print, name: &str, log: &[u8], n: usize) -> io::Result<(
 fn opened(rt: &impl Print, log: &[u8]) -> io::Result<()> {
     println!(rt;
         "  a reader holds {} bytes, at {} or at {}",
-        wal::reader::kept_part(log).len(),
-        wal::reader::opened_at(log, false),
-        wal::reader::opened_at(log, true)
+        kept_part(log).len(),
+        opened_at(log, false),
+        opened_at(log, true)
     )
 }
 
 // A reader opened behind the header or at the end, and what it finds by two steps forward and one back.
 fn travel(rt: &impl Print, name: &str, log: &[u8], end: bool) -> io::Result<()> {
     let t = there_and_back(log, end);
-    println!(rt; "{name}: number {}", t.number)?;
-    print!(rt; "  forward:")?;
-    print_reading(rt, t.first)?;
-    print!(rt; "  forward:")?;
-    print_reading(rt, t.second)?;
-    print!(rt; "  backward:")?;
-    print_before(rt, t.third)?;
+    println!(rt; "{name}: number {}", number(t.refusal))?;
+    println!(rt; "  forward: {}", Ahead(t.first))?;
+    println!(rt; "  forward: {}", Ahead(t.second))?;
+    println!(rt; "  backward: {}", Behind(t.third))?;
     println!(rt; "  at {}", t.place)
 }
 
@@ -167,7 +196,7 @@ fn headers(rt: &impl Print) -> io::Result<()> {
 fn places(rt: &impl Print) -> io::Result<()> {
     let mut log = [0u8; 75];
     put_header(&mut log);
-    put_entry(&mut log, 32, 1, 0, 0, 0);
+    put_entry(&mut log, 32, Kind::Begin, 0, 0, 0);
     show(rt, "a Begin", &log)?;
     opened(rt, &log)?;
     forward(rt, &log, 0)?;
@@ -182,7 +211,7 @@ fn places(rt: &impl Print) -> io::Result<()> {
 fn places_back(rt: &impl Print) -> io::Result<()> {
     let mut log = [0u8; 75];
     put_header(&mut log);
-    put_entry(&mut log, 32, 1, 0, 0, 0);
+    put_entry(&mut log, 32, Kind::Begin, 0, 0, 0);
     let at = backward(rt, &log, 75)?;
     backward(rt, &log, at)?;
     backward(rt, &log, 0)?;
@@ -196,7 +225,7 @@ fn places_back(rt: &impl Print) -> io::Result<()> {
 fn tails(rt: &impl Print) -> io::Result<()> {
     let mut log = [0u8; 75];
     put_header(&mut log);
-    put_entry(&mut log, 32, 1, 0, 0, 0);
+    put_entry(&mut log, 32, Kind::Begin, 0, 0, 0);
     show_first(rt, "header and 42 bytes of a Begin", &log, 74)?;
     show_first(rt, "4 bytes left", &log, 36)?;
     show_first(rt, "3 bytes left", &log, 35)?;
@@ -223,7 +252,7 @@ fn lengths(rt: &impl Print) -> io::Result<()> {
 fn room(rt: &impl Print) -> io::Result<()> {
     let mut log = [0u8; 80];
     put_header(&mut log);
-    put_entry(&mut log, 32, 1, 0, 0, 0);
+    put_entry(&mut log, 32, Kind::Begin, 0, 0, 0);
     show_first(rt, "a Begin and 1 zero byte", &log, 76)?;
     show_first(rt, "a Begin and 3 zero bytes", &log, 78)?;
     show_first(rt, "a Begin and 4 zero bytes", &log, 79)?;
@@ -234,7 +263,7 @@ fn room(rt: &impl Print) -> io::Result<()> {
 fn room_steps(rt: &impl Print) -> io::Result<()> {
     let mut log = [0u8; 100];
     put_header(&mut log);
-    put_entry(&mut log, 32, 1, 0, 0, 0);
+    put_entry(&mut log, 32, Kind::Begin, 0, 0, 0);
     show(rt, "a Begin and 25 zero bytes", &log)?;
     opened(rt, &log)?;
     let at = forward(rt, &log, 75)?;
@@ -247,7 +276,7 @@ fn room_steps(rt: &impl Print) -> io::Result<()> {
 fn spoiled_room(rt: &impl Print) -> io::Result<()> {
     let mut log = [0u8; 100];
     put_header(&mut log);
-    put_entry(&mut log, 32, 1, 0, 0, 0);
+    put_entry(&mut log, 32, Kind::Begin, 0, 0, 0);
     log[99] = 1;
     show(rt, "the last of them 1", &log)
 }
@@ -274,7 +303,7 @@ fn cut_room(rt: &impl Print) -> io::Result<()> {
         "a length of 256 cut after its first byte, 67 zero bytes",
         &log,
     )?;
-    put_entry(&mut log, 32, 1, 0, 0, 0);
+    put_entry(&mut log, 32, Kind::Begin, 0, 0, 0);
     put_u16(&mut log, 72, 0);
     log[74] = 0;
     show(
@@ -295,7 +324,7 @@ fn longest(rt: &impl Print) -> io::Result<()> {
     let mut log = [7u8; 32737];
     put_header(&mut log);
     put_u32(&mut log, 32, 32705);
-    put_fields(&mut log, 32, 5);
+    put_fields(&mut log, 32, Kind::Delete);
     put_inner(&mut log, 32, 0, 0, 0);
     put_u32(&mut log, 63, 32662);
     seal(&mut log, 32, 32705);
@@ -310,7 +339,7 @@ fn longer(rt: &impl Print) -> io::Result<()> {
     let mut log = [7u8; 32738];
     put_header(&mut log);
     put_u32(&mut log, 32, 32706);
-    put_fields(&mut log, 32, 5);
+    put_fields(&mut log, 32, Kind::Delete);
     put_inner(&mut log, 32, 0, 0, 0);
     put_u32(&mut log, 63, 32663);
     seal(&mut log, 32, 32706);
@@ -322,14 +351,14 @@ fn longer(rt: &impl Print) -> io::Result<()> {
 fn damages(rt: &impl Print) -> io::Result<()> {
     let mut log = [0u8; 80];
     put_header(&mut log);
-    put_entry(&mut log, 32, 2, 3, 2, 0);
+    put_entry(&mut log, 32, Kind::Commit, 3, 2, 0);
     show(rt, "an entry of 48 bytes", &log)?;
     log[40] = 0xFF;
     show(rt, "a byte of its LSN changed", &log)?;
-    put_entry(&mut log, 32, 2, 3, 2, 0);
+    put_entry(&mut log, 32, Kind::Commit, 3, 2, 0);
     put_u32(&mut log, 72, 0);
     show(rt, "another checksum", &log)?;
-    put_entry(&mut log, 32, 2, 3, 2, 0);
+    put_entry(&mut log, 32, Kind::Commit, 3, 2, 0);
     put_u32(&mut log, 76, 47);
     show(rt, "another last length", &log)
 }
@@ -337,15 +366,15 @@ fn damages(rt: &impl Print) -> io::Result<()> {
 fn inner_damages(rt: &impl Print) -> io::Result<()> {
     let mut log = [0u8; 80];
     put_header(&mut log);
-    put_entry(&mut log, 32, 2, 3, 2, 0);
+    put_entry(&mut log, 32, Kind::Commit, 3, 2, 0);
     put_u16(&mut log, 57, 4);
     seal(&mut log, 32, 48);
     show(rt, "a key length of one more, sealed", &log)?;
-    put_entry(&mut log, 32, 2, 3, 2, 0);
+    put_entry(&mut log, 32, Kind::Commit, 3, 2, 0);
     put_u32(&mut log, 62, 0xFFFF_FFFF);
     seal(&mut log, 32, 48);
     show(rt, "an old length past the entry, sealed", &log)?;
-    put_entry(&mut log, 32, 2, 3, 2, 0);
+    put_entry(&mut log, 32, Kind::Commit, 3, 2, 0);
     put_u32(&mut log, 68, 1);
     seal(&mut log, 32, 48);
     show(rt, "a new length of one more, sealed", &log)
@@ -354,8 +383,8 @@ fn inner_damages(rt: &impl Print) -> io::Result<()> {
 fn two_entries(rt: &impl Print) -> io::Result<()> {
     let mut log = [0u8; 140];
     put_header(&mut log);
-    put_entry(&mut log, 32, 1, 0, 0, 0);
-    put_entry(&mut log, 75, 10, 10, 2, 7);
+    put_entry(&mut log, 32, Kind::Begin, 0, 0, 0);
+    put_entry(&mut log, 75, Kind::Update, 10, 2, 7);
     show(rt, "two entries and 3 bytes", &log)?;
     opened(rt, &log)?;
     let a = forward(rt, &log, 32)?;
@@ -371,8 +400,8 @@ fn two_entries(rt: &impl Print) -> io::Result<()> {
 fn image(rt: &impl Print) -> io::Result<()> {
     let mut log = [0u8; 145];
     put_header(&mut log);
-    put_entry(&mut log, 85, 1, 0, 0, 0);
-    put_entry(&mut log, 32, 4, 10, 0, 60);
+    put_entry(&mut log, 85, Kind::Begin, 0, 0, 0);
+    put_entry(&mut log, 32, Kind::Insert, 10, 0, 60);
     show(rt, "a row image that holds a whole entry", &log)?;
     let a = forward(rt, &log, 32)?;
     let b = backward(rt, &log, a)?;
@@ -385,8 +414,8 @@ fn image(rt: &impl Print) -> io::Result<()> {
 // Two entries and three bytes of a third: refused without its header, torn, and without those bytes.
 fn readers(rt: &impl Print) -> io::Result<()> {
     let mut log = [0u8; 140];
-    put_entry(&mut log, 32, 1, 0, 0, 0);
-    put_entry(&mut log, 75, 10, 10, 2, 7);
+    put_entry(&mut log, 32, Kind::Begin, 0, 0, 0);
+    put_entry(&mut log, 75, Kind::Update, 10, 2, 7);
     travel(rt, "a reader of a log that is refused", &log, false)?;
     travel(rt, "the same, from its end", &log, true)?;
     put_header(&mut log);

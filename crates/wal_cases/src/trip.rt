@@ -1,32 +1,38 @@
 // A log reader, from its opening on.
 ghost use Rattle.std.specs.Prelude.{◌≡◌};
+ghost use Rattle.wal.specs.Read.{header_fault};
+ghost use Rattle.wal.specs.Reader.{refusal_number};
 ghost use Rattle.wal_cases.specs.Trip.{trip_of};
 
-use wal::reader::{backward, forward, open};
-use wal::{Before, Reading};
+use refusals::Refusal;
+use wal::reader::LogReader;
+use wal::{EntryView, Reading};
 
-// What two steps forward and one back find, and the reader's place and number after them.
+// What two steps forward and one back find, and the reader's place and refusal after them.
 #[derive(Clone, Copy)]
 pub struct Trip {
     pub first: Reading,
     pub second: Reading,
-    pub third: Before,
+    pub third: Option<EntryView>,
     pub place: usize,
-    pub number: u64,
+    pub refusal: Option<Refusal>,
 }
 
-// A reader is opened and passed from step to step.
+// A reader is opened and goes from step to step.
+#[tactic(auto, unfolding(crate::specs::Trip::trip_of))]
 pub fn there_and_back(log: &[u8], end: bool) -> Trip
-    ensures { result ≡ trip_of end log.now }
+    ensures finds { result ≡ trip_of end log.now result.refusal }
+    ensures refusal { refusal_number result.refusal ≡ header_fault log.now }
 {
-    let a = forward(open(log, end));
-    let b = forward(a.reader);
-    let c = backward(b.reader);
+    let mut reader = LogReader::open(log, end);
+    let first = reader.forward();
+    let second = reader.forward();
+    let third = reader.backward();
     Trip {
-        first: a.found,
-        second: b.found,
-        third: c.found,
-        place: c.reader.place,
-        number: c.reader.number,
+        first,
+        second,
+        third,
+        place: reader.place,
+        refusal: reader.refusal,
     }
 }

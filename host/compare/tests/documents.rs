@@ -230,7 +230,7 @@ fn declared_in_antt(text: &str) -> BTreeSet<String> {
 }
 
 /// Functions (also as `fn name`), tests (as `#[test] name`), types, constants, modules, locals, parameters, fields, labels,
-/// cases of enums.
+/// cases of enums, refusals of the header's list.
 fn declared_in_code(text: &str) -> BTreeSet<String> {
     let mut names = BTreeSet::new();
     let mut tested = false;
@@ -255,7 +255,8 @@ fn declared_in_code(text: &str) -> BTreeSet<String> {
                 || (&rest[..start] == " *" && behind.starts_with('('))
                 || (behind.starts_with(':') && !behind.starts_with("::"))
                 || behind.starts_with(" = ")
-                || (opens && (behind == "," || behind.starts_with('(')));
+                || (opens && (behind == "," || behind.starts_with('(')))
+                || (word.starts_with("LQ_") && behind.starts_with(','));
             if declares {
                 names.insert(word.to_string());
                 names.extend(word.strip_prefix("LQ_").map(String::from));

@@ -7,7 +7,7 @@ ghost use Rattle.index.specs.Collect.{Stock, Lowered, Put, Collected};
 use crate::inner::{build, build_all, number_of};
 use endian::TxnNumber;
 
-// How many places are held, and the range's end.
+// How many places are held, and the range's end. The array is lent at each call and not kept here: a walk that offers places to two arrays lends each for one entry at a time.
 #[derive(Clone, Copy)]
 pub struct Held {
     pub len: usize,
@@ -37,7 +37,7 @@ fn put(a: &mut [u32], len: usize, hi: TxnNumber, t: TxnNumber, p: u32) -> usize
     requires { len < length a.old }
     ensures { Put a.old len hi.0 t.0 p a.new result }
 {
-    if hi.0 < t.0 {
+    if hi < t {
         return len;
     }
     a[len] = p;
@@ -80,11 +80,8 @@ fn fill(log: &[u8], places: &[u32], a: &mut [u32], lo: TxnNumber) -> Held
         len: 0,
         hi: TxnNumber(18446744073709551615),
     };
-    let mut i: usize = 0;
-    while i < places.len() {
-        let p = places[i];
-        held = offer(log, a, lo, held, p);
-        i += 1;
+    for p in places {
+        held = offer(log, a, lo, held, *p);
     }
     held
 }

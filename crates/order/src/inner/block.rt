@@ -1,16 +1,16 @@
 // Blocks of transaction numbers: the first Begins and endings of each are collected, and the entries of its transactions tested by them.
-ghost use Rattle.std.specs.Prelude.{◌≡◌, not, ◌+◌, ◌≤◌, ◌<◌, min, length, eqb};
+ghost use Rattle.std.specs.Option.{unwrap_or};
+ghost use Rattle.std.specs.Prelude.{◌≡◌, IfSome, not, ◌+◌, ◌≤◌, ◌<◌, length, eqb};
 ghost use Rattle.endian.specs.Pick.{pick};
-ghost use Rattle.wal.specs.Entry.{begin, commit, rollback};
+ghost use Rattle.wal.specs.Entry.{begin};
 ghost use Rattle.wal.specs.Read.{length_at};
 ghost use Rattle.wal.specs.Prefix.{entry_in, said, Stands, Met, before};
-ghost use Rattle.rules.specs.Shape.{either};
 ghost use Rattle.rules.specs.Order.{begun, is_open};
 ghost use Rattle.order.specs.First.{reach};
 ghost use Rattle.order.specs.Blocks.{top_number, Gathered, Blocked, in_block, is_before, Telling, right_in, FirstWrong, every_number};
 
-use crate::{BEGIN, Block, COMMIT, Holding, ROLLBACK, TOP};
-use change::CHECKPOINT;
+use crate::inner::kinds::{is_begin, is_checkpoint, is_end};
+use crate::{Block, Holding, TOP};
 use change::inner::is_change;
 use endian::TxnNumber;
 use index::inner::build;
@@ -19,64 +19,53 @@ use index::inner::near::{GUESSES, near};
 use wal::inner::known_at;
 use wal::{EntryView, FIRST, Reading};
 
-// Whether an entry of this type ends a transaction.
-pub fn is_end(kind: u8) -> bool
-    ensures { result ≡ either (eqb kind commit) (eqb kind rollback) }
-{
-    if kind == COMMIT {
-        return true;
-    }
-    kind == ROLLBACK
-}
-
 // Nothing is collected yet, of any number.
 fn nothing() -> Holding
     ensures { (result.begins.len ≡ 0) × (result.ends.len ≡ 0) × (result.begins.hi.0 ≡ top_number) × (result.ends.hi.0 ≡ top_number) }
 {
+    let none = Held { len: 0, hi: TOP };
     Holding {
-        begins: Held {
-            len: 0,
-            hi: TxnNumber(TOP),
-        },
-        ends: Held {
-            len: 0,
-            hi: TxnNumber(TOP),
-        },
+        begins: none,
+        ends: none,
     }
 }
 
-// Takes the entry at a place in, where it is a Begin or an ending.
+// Takes an entry in, where it is a Begin or an ending.
 fn take_in(
     log: &[u8],
     begins: &mut [u32],
     ends: &mut [u32],
     lo: TxnNumber,
     held: Holding,
-    at: usize,
-    kind: u8,
+    v: EntryView,
 ) -> Holding
     requires log_len_bound { length log.now < reach }
     requires in_bounds { (2 ≤ length begins.old) × (2 ≤ length ends.old) }
-    requires met { Met log.now at }
-    requires stands { Stands log.now at }
-    requires kind_value { kind ≡ (said log.now at).kind }
-    requires gathered { Gathered log.now lo.0 at held begins.old ends.old }
-    ensures { Gathered log.now lo.0 (at + length_at log.now at) result begins.new ends.new }
+    requires met { Met log.now v.place }
+    requires stands { Stands log.now v.place }
+    requires v_value { v ≡ entry_in log.now v.place }
+    requires gathered { Gathered log.now lo.0 v.place held begins.old ends.old }
+    ensures { Gathered log.now lo.0 (v.place + length_at log.now v.place) result begins.new ends.new }
 {
-    let b = held.begins;
-    let e = held.ends;
-    if kind == BEGIN {
-        let h = offer(log, begins, lo, b, at as u32);
-        return Holding { begins: h, ends: e };
+    if is_begin(v.kind) {
+        let begins = offer(log, begins, lo, held.begins, v.place as u32);
+        return Holding {
+            begins,
+            ends: held.ends,
+        };
     }
-    if is_end(kind) {
-        let h = offer(log, ends, lo, e, at as u32);
-        return Holding { begins: b, ends: h };
+    if is_end(v.kind) {
+        let ends = offer(log, ends, lo, held.ends, v.place as u32);
+        return Holding {
+            begins: held.begins,
+            ends,
+        };
     }
     held
 }
 
-// Collects the first Begins and endings before stop, of the numbers from lo on.
+// Collects the first Begins and endings before stop, of the numbers from lo on. A step of this walk and of the next is as long as its entry, so there is no index to count; `let .. else` is the form of
+// docs/ARCHITECTURE.md.
 fn collect(log: &[u8], begins: &mut [u32], ends: &mut [u32], lo: TxnNumber, stop: usize) -> Holding
     requires log_len_bound { length log.now < reach }
     requires in_bounds { (2 ≤ length begins.old) × (2 ≤ length ends.old) }
@@ -89,18 +78,9 @@ fn collect(log: &[u8], begins: &mut [u32], ends: &mut [u32], lo: TxnNumber, stop
         let Reading::Whole(v) = known_at(log, at, stop) else {
             return held;
         };
-        held = take_in(log, begins, ends, lo, held, at, v.kind);
+        held = take_in(log, begins, ends, lo, held, v);
         at = at + v.length;
     }
-}
-
-fn lesser(x: TxnNumber, y: TxnNumber) -> TxnNumber
-    ensures { result.0 ≡ min x.0 y.0 }
-{
-    if x.0 < y.0 {
-        return x;
-    }
-    y
 }
 
 // Makes a block of what was collected.
@@ -117,19 +97,15 @@ fn settle(
     ensures stop_value { (result.stop ≡ stop) × (result.lo.0 ≡ lo.0) }
     ensures blocked { Blocked log.now result begins.new ends.new }
 {
-    let b = held.begins;
-    let e = held.ends;
-    let n = build(log, begins, b.len);
-    let m = build(log, ends, e.len);
-    let x = b.hi;
-    let y = e.hi;
-    let hi = lesser(x, y);
+    let hi = held.begins.hi.min(held.ends.hi);
+    let begins = build(log, begins, held.begins.len);
+    let ends = build(log, ends, held.ends.len);
     Block {
-        stop: stop,
-        lo: lo,
-        hi: hi,
-        begins: n,
-        ends: m,
+        stop,
+        lo,
+        hi,
+        begins,
+        ends,
     }
 }
 
@@ -145,129 +121,91 @@ fn next_block(log: &[u8], begins: &mut [u32], ends: &mut [u32], lo: TxnNumber, s
     settle(log, begins, ends, lo, stop, held)
 }
 
-// Whether the place q, if it is one, is before `at`.
-fn is_before(q: u32, at: usize) -> bool
-    ensures { result ≡ is_before q at }
+// Whether there is a place and it is before `at`.
+fn is_before(place: Option<u32>, at: usize) -> bool
+    requires { IfSome place (λ q. 1 ≤ q) }
+    ensures { result ≡ is_before (unwrap_or place 0) at }
 {
-    if q == 0 {
-        return false;
-    }
-    (q as usize) < at
+    place.is_some_and(|q| (q as usize) < at)
 }
 
-// Whether an entry of transaction t, which is not 0, is in order at a place, by its first Begin and its first ending.
-fn in_turn(
-    log: &[u8],
-    at: usize,
-    kind: u8,
-    t: TxnNumber,
-    lo: TxnNumber,
-    hi: TxnNumber,
-    stop: usize,
-    begins: &[u32],
-    ends: &[u32],
-    near_begins: &mut [u32; GUESSES],
-    near_ends: &mut [u32; GUESSES],
-) -> bool
-    requires met { Met log.now at }
-    requires at_le_stop { (at ≤ stop) × (lo.0 ≤ t.0) × (t.0 ≤ hi.0) }
-    requires telling { Telling log.now lo.0 hi.0 stop begins.now ends.now }
-    ensures { result ≡ pick (eqb kind begin) (not (begun (before log.now at) t.0)) (is_open (before log.now at) t.0) }
-{
-    let b = near(log, begins, t, near_begins);
-    let started = is_before(b, at);
-    if kind == BEGIN {
-        return !started;
-    }
-    if !started {
-        return false;
-    }
-    let e = near(log, ends, t, near_ends);
-    !is_before(e, at)
+// Where in two indexes numbers of the same remainder were found last.
+#[derive(Drop)]
+struct Guesses {
+    begins: [u32; GUESSES],
+    ends: [u32; GUESSES],
 }
 
-// Whether the entry at a place is in order, if its number is of the block.
-fn right(
-    log: &[u8],
-    v: EntryView,
-    at: usize,
-    lo: TxnNumber,
-    hi: TxnNumber,
-    stop: usize,
-    begins: &[u32],
-    ends: &[u32],
-    near_begins: &mut [u32; GUESSES],
-    near_ends: &mut [u32; GUESSES],
-) -> bool
-    requires met { Met log.now at }
-    requires v_value { v ≡ entry_in log.now at }
-    requires at_le_stop { at ≤ stop }
-    requires telling { Telling log.now lo.0 hi.0 stop begins.now ends.now }
-    ensures { result ≡ right_in lo.0 hi.0 (before log.now at) (said log.now at) }
-{
-    let t = v.txn;
-    if t.0 < lo.0 {
-        return true;
-    }
-    if hi.0 < t.0 {
-        return true;
-    }
-    if v.kind == CHECKPOINT {
-        return true;
-    }
-    if t.0 == 0 {
-        return is_change(v.kind);
-    }
-    in_turn(
-        log,
-        at,
-        v.kind,
-        t,
-        lo,
-        hi,
-        stop,
-        begins,
-        ends,
-        near_begins,
-        near_ends,
-    )
-}
-
-// The place of the first entry before stop that is out of order and has a number of the block, or stop.
-fn test(
-    log: &[u8],
+// A log, and the first Begins and endings of a block of its transactions, in two indexes.
+#[derive(Drop)]
+struct Indexed<'a> {
+    log: &'a [u8],
     stop: usize,
     lo: TxnNumber,
     hi: TxnNumber,
-    begins: &[u32],
-    ends: &[u32],
-) -> usize
-    requires met { Met log.now stop }
-    requires telling { Telling log.now lo.0 hi.0 stop begins.now ends.now }
-    ensures { FirstWrong log.now (in_block lo.0 hi.0) stop result }
-{
-    let mut near_begins = [0u32; GUESSES];
-    let mut near_ends = [0u32; GUESSES];
-    let mut at = FIRST;
-    loop {
-        let Reading::Whole(v) = known_at(log, at, stop) else {
-            return stop;
-        };
-        if !right(
-            log,
-            v,
-            at,
-            lo,
-            hi,
-            stop,
-            begins,
-            ends,
-            &mut near_begins,
-            &mut near_ends,
-        ) {
-            return at;
+    begins: &'a [u32],
+    ends: &'a [u32],
+    ghost telling: { Telling log.now lo.0 hi.0 stop begins.now ends.now },
+}
+
+impl<'a> Indexed<'a> {
+    // Whether an entry of the block's, of a transaction that is not 0, is in order, by its first Begin and its first ending.
+    fn in_turn(&self, v: EntryView, guesses: &mut Guesses) -> bool
+        requires met { Met self.now.log.now v.place }
+        requires in_block { (v.place ≤ self.now.stop) × (self.now.lo.0 ≤ v.txn.0) × (v.txn.0 ≤ self.now.hi.0) }
+        ensures { result ≡ pick (eqb v.kind begin) (not (begun (before self.now.log.now v.place) v.txn.0)) (is_open (before self.now.log.now v.place) v.txn.0) }
+    {
+        let b = near(self.log, self.begins, v.txn, &mut guesses.begins);
+        let started = is_before(b, v.place);
+        if is_begin(v.kind) {
+            return !started;
         }
-        at = at + v.length;
+        if !started {
+            return false;
+        }
+        let e = near(self.log, self.ends, v.txn, &mut guesses.ends);
+        !is_before(e, v.place)
+    }
+
+    // Whether an entry is in order, if its number is of the block.
+    fn right(&self, v: EntryView, guesses: &mut Guesses) -> bool
+        requires met { Met self.now.log.now v.place }
+        requires v_value { v ≡ entry_in self.now.log.now v.place }
+        requires at_le_stop { v.place ≤ self.now.stop }
+        ensures { result ≡ right_in self.now.lo.0 self.now.hi.0 (before self.now.log.now v.place) (said self.now.log.now v.place) }
+    {
+        if v.txn < self.lo || self.hi < v.txn {
+            return true;
+        }
+        if is_checkpoint(v.kind) {
+            return true;
+        }
+        if v.txn == TxnNumber(0) {
+            return is_change(v.kind);
+        }
+        self.in_turn(v, guesses)
+    }
+
+    // The place of the first entry before stop that is out of order and has a number of the block, or stop.
+    fn first_wrong(&self, stop: usize) -> usize
+        requires met { Met self.now.log.now stop }
+        requires stop_le_stop { stop ≤ self.now.stop }
+        ensures { FirstWrong self.now.log.now (in_block self.now.lo.0 self.now.hi.0) stop result }
+    {
+        let mut guesses = Guesses {
+            begins: [0u32; GUESSES],
+            ends: [0u32; GUESSES],
+        };
+        let mut at = FIRST;
+        loop {
+            let Reading::Whole(v) = known_at(self.log, at, stop) else {
+                return stop;
+            };
+            if !self.right(v, &mut guesses) {
+                return at;
+            }
+            at = at + v.length;
+        }
     }
 }
 
@@ -278,14 +216,18 @@ fn tested(log: &[u8], stop: usize, b: Block, begins: &[u32], ends: &[u32]) -> us
     requires blocked { Blocked log.now b begins.now ends.now }
     ensures { FirstWrong log.now (in_block b.lo.0 b.hi.0) stop result }
 {
-    let n = b.begins;
-    let m = b.ends;
-    let lo = b.lo;
-    let hi = b.hi;
-    test(log, stop, lo, hi, &begins[..n], &ends[..m])
+    let block = Indexed {
+        log,
+        stop: b.stop,
+        lo: b.lo,
+        hi: b.hi,
+        begins: &begins[..b.begins],
+        ends: &ends[..b.ends],
+    };
+    block.first_wrong(stop)
 }
 
-// The place of the first entry before stop that is out of order, or stop: block after block.
+// The place of the first entry before stop that is out of order, or stop: block after block. Which number the next begins with is known only once one is made, so no range is gone through.
 pub fn by_blocks(log: &[u8], stop: usize, begins: &mut [u32], ends: &mut [u32]) -> usize
     requires log_len_bound { length log.now < reach }
     requires in_bounds { (2 ≤ length begins.old) × (2 ≤ length ends.old) }
@@ -296,10 +238,9 @@ pub fn by_blocks(log: &[u8], stop: usize, begins: &mut [u32], ends: &mut [u32]) 
     let mut b = next_block(log, begins, ends, TxnNumber(0), stop);
     loop {
         best = tested(log, best, b, begins, ends);
-        let hi = b.hi;
-        if hi.0 == TOP {
+        if b.hi == TOP {
             return best;
         }
-        b = next_block(log, begins, ends, TxnNumber(hi.0 + 1), best);
+        b = next_block(log, begins, ends, TxnNumber(b.hi.0 + 1), best);
     }
 }

@@ -114,12 +114,19 @@ fn names_and_numbers_are_the_same() {
     assert!(REFUSALS.is_sorted_by(|one, other| one.number < other.number));
 }
 
+/// `PAGE_AREA` as the proved code spells it, `PageArea`.
+fn in_code(name: &str) -> String {
+    name.split('_')
+        .map(|word| format!("{}{}", &word[..1], word[1..].to_lowercase()))
+        .collect()
+}
+
 #[test]
 fn refusals_are_one_list() {
     let code: Vec<String> = CODE
         .lines()
-        .filter(|line| line.starts_with("pub const"))
-        .map(String::from)
+        .map(|line| line.trim().to_string())
+        .filter(|line| line.starts_with("Refusal::"))
         .collect();
     let rules: Vec<String> = RULES
         .lines()
@@ -131,10 +138,11 @@ fn refusals_are_one_list() {
     };
     assert_eq!(
         code,
-        expected(|name, number| format!("pub const {name}: u64 = {number};"))
+        expected(|name, number| format!("Refusal::{} => {number},", in_code(name)))
     );
-    assert_eq!(
-        rules,
-        expected(|name, number| format!("{} = {number}", name.to_lowercase()))
-    );
+    let mut numbers = expected(|name, number| format!("{} = {number}", name.to_lowercase()));
+    numbers.extend(expected(|name, _| {
+        format!("number_of {} = {}", in_code(name), name.to_lowercase())
+    }));
+    assert_eq!(rules, numbers);
 }

@@ -15,8 +15,8 @@ located-requires c κs =
 returns : tie.Need-returns
 returns c =
     let m = c.args.s.image in
-    let h = located-head c.head-h.result m.logged m.place m.length c.located.ensures in
-    (c.located.ensures ∙ ap (λ (x : RowHead). located_by x m.logged m.place m.length) (sym h), h ∙ c.head-h.ensures)
+    let h = located-head c.head-h.result m.source m.place m.length c.located.ensures in
+    (c.located.ensures ∙ ap (λ (x : RowHead). located_by x m.source m.place m.length) (sym h), h ∙ c.head-h.ensures)
 
 pub locate_spec : {M : Type 1} → statement M
 locate_spec = tie.close (tie.spec (λ c κs. search rules) located-requires returns)

@@ -1,0 +1,7 @@
+use Rattle.std.proofs.Common.{◌≡◌, ◌+◌, ◌-◌, ◌≤◌}
+use Rattle.endian.specs.Numbers.{part}
+use Rattle.summary.specs.Number.{value_of}
+use Rattle.summary.proofs.numbers.value.Given as goal
+
+abbrev pub invariant-loop-p : goal.invariant-loop-p
+invariant-loop-p l = record { below : l.at ≤ l.p; so-far : l.n ≡ value_of (part l.p (l.end + 1 - l.p) l.file) }
