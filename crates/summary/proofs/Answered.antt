@@ -1,16 +1,13 @@
 -- What is answered where a verdict accepts, read off an Ok or an Err.
--- Assumes nothing.
+-- Beside what `refusals Told` says of a result and its verdict. Assumes nothing.
 use mathlib.Core.Path.{◌≡◌, refl, sym}
 use mathlib.Core.Bool.{Bool, true, false}
-use Prim.Native.Nat.{ℕ}
 use lib.Dec.{eqb}
 use borrow.Author.Tests.{eqb-true, eqb-false, eq-eqb, ne_eqb}
-use Rattle.std.specs.Prelude.{Result, Ok, Err, IsErrAnd}
+use Rattle.std.specs.Prelude.{Result, Ok, Err}
 use Rattle.std.specs.Result.{result_unwrap_or}
-use Rattle.std.proofs.lemmas.Result.{err_from_is_err_and}
 use Rattle.endian.specs.Pick.{pick}
-use Rattle.refusals.specs.Refusal.{number_of}
-use Rattle.refusals.specs.Verdict.{verdict, told, told_by, by_number, answered, ◌then◌}
+use Rattle.refusals.specs.Verdict.{told_by, by_number, answered, ◌then◌}
 use Rattle.refusals.specs.declared.Refused.{Refused}
 use Rattle.refusals.specs.declared.Verdict.{Verdict}
 use Rattle.refusals.proofs.Then.{then-refused, then-accepted}
@@ -49,17 +46,6 @@ module _ {S T : Type 0} (v w : Verdict) (y : S) (x : T) where
 
   pub then_ok : (z : S) → Ok z ≡ answered v y → answered w x ≡ answered (v then w) x
   then_ok z e = rw (then-accepted v w (answered-ok v y z e).0)
-
--- what is refused at a place
-pub refused-at : (r : Refused) (n p : ℕ) → number_of r.refusal ≡ n → r.place ≡ p → told_by r ≡ verdict n p
-refused-at r n p e g = rw (e, g)
-
--- what a `?` hands on
-pub handed-on : {T : Type 0} (r : Result T Refused) (e : Refused) → IsErrAnd r (λ d. d ≡ e) → by_number r ≡ Err (told_by e)
-handed-on r e h = let p = err_from_is_err_and r h in rw (p.1, p.2)
-
-pub told-on : (r : Result Unit Refused) (e : Refused) → IsErrAnd r (λ d. d ≡ e) → told r ≡ told_by e
-told-on r e h = let p = err_from_is_err_and r h in rw (p.1, p.2)
 
 -- or else another answer
 pub or-else : {T : Type 0} (r : Result T Refused) (v : Verdict) (x y : T) → by_number r ≡ answered v x → result_unwrap_or r y ≡ pick (eqb v.number 0) x y

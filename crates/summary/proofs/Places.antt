@@ -25,7 +25,8 @@ use Rattle.summary.specs.Number.{continued, spelling, value_of, value_at, after_
 use Rattle.summary.specs.Summary.{number_verdict}
 use Rattle.summary.specs.declared.Number.{Number}
 use Rattle.summary.specs.Inner.{end_of, Ends, number_at}
-use Rattle.summary.proofs.Answered.{answered-ok, answered-err, refused-at}
+use Rattle.refusals.proofs.Told.{refused-at}
+use Rattle.summary.proofs.Answered.{answered-ok, answered-err}
 use Rattle.summary.proofs.Spelling.{top_of, Whole, last-here, goes_on, length-spelling, spelt-one, spelt-zero, spelt-nine, spelt-over, spelt-ten, well-spelt}
 
 -- ---- the search for the last group

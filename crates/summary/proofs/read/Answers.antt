@@ -1,7 +1,7 @@
 use mathlib.Core.Path.{refl, ◌∙◌}
 use Rattle.refusals.specs.Verdict.{accepted, told_by}
 use Rattle.refusals.proofs.Told.{refused-some}
-use Rattle.summary.proofs.Answered.{handed-on}
+use Rattle.refusals.proofs.Told.{handed-on}
 use Rattle.summary.proofs.RowLaws.{head-refused, file-refused, file-taken}
 use Rattle.summary.proofs.read.Goals as goal
 

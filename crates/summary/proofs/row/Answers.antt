@@ -1,5 +1,5 @@
 use mathlib.Core.Path.{◌∙◌}
-use Rattle.summary.proofs.Answered.{handed-on}
+use Rattle.refusals.proofs.Told.{handed-on}
 use Rattle.summary.proofs.RowLaws.{numbered-refused, numbered-past, numbered-there}
 use Rattle.summary.proofs.row.Goals as goal
 

@@ -13,7 +13,7 @@ use Rattle.page.proofs.Listing.{listable}
 use Rattle.page.proofs.Verdicts.{accepted-size}
 use Rattle.summary.specs.Summary.{head_of, rows_bytes, summary_rows, summary_file}
 use Rattle.summary.specs.declared.Measured.{Measured}
-use Rattle.summary.proofs.Answered.{handed-on, refused-at}
+use Rattle.refusals.proofs.Told.{handed-on, refused-at}
 use Rattle.summary.proofs.RowBytes.{few-row-bytes, length-file}
 use Rattle.summary.proofs.WriteLaws.{write-refused, write-short, write_done}
 use Rattle.summary.proofs.write.Goals as goal

@@ -5,7 +5,7 @@ use Rattle.std.specs.Prelude.{Ok}
 use Rattle.endian.specs.Numbers.{Bytes}
 use Rattle.refusals.specs.Refusal.{number_of}
 use Rattle.summary.specs.Inner.{Ends}
-use Rattle.summary.proofs.Answered.{refused-at}
+use Rattle.refusals.proofs.Told.{refused-at}
 use Rattle.summary.proofs.Places.{taken, end-found, read-early, read-misspelt, value-fits, read-well}
 use Rattle.summary.proofs.numbers.read.Goals as goal
 use Rattle.summary.proofs.numbers.read.Goals.{In-Some}

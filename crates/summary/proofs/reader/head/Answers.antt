@@ -1,7 +1,7 @@
 use mathlib.Core.Path.{◌∙◌}
 use Rattle.summary.specs.Number.{any_number}
 use Rattle.summary.specs.Summary.{edition_rule, lsn_of, count_of, summary_in}
-use Rattle.summary.proofs.Answered.{handed-on}
+use Rattle.refusals.proofs.Told.{handed-on}
 use Rattle.summary.proofs.Threes.{first-refused, second-refused, third-refused, all-taken}
 use Rattle.summary.proofs.reader.head.Goals as goal
 

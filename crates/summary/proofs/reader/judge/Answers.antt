@@ -3,7 +3,7 @@ use Prim.Native.Nat.{ℕ, ◌+◌, ◌-◌}
 use native.Mathlib.Omega.{arith}
 use Rattle.refusals.specs.Refusal.{number_of}
 use Rattle.summary.specs.Summary.{rows_verdict}
-use Rattle.summary.proofs.Answered.{told-on, refused-at}
+use Rattle.refusals.proofs.Told.{told-on, refused-at}
 use Rattle.summary.proofs.RowLaws.{row-refused, row-passed, row_low, rows-left-over, rows_end}
 use Rattle.summary.proofs.reader.judge.Goals as goal
 

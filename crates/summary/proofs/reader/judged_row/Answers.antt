@@ -1,6 +1,6 @@
 use mathlib.Core.Path.{◌∙◌}
 use Rattle.summary.specs.Summary.{page_rule, slot_rule, length_rule, row_step}
-use Rattle.summary.proofs.Answered.{handed-on}
+use Rattle.refusals.proofs.Told.{handed-on}
 use Rattle.summary.proofs.Threes.{first-refused, second-refused, third-refused, all-taken}
 use Rattle.summary.proofs.reader.judged_row.Goals as goal
 

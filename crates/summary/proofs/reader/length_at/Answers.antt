@@ -2,7 +2,7 @@ use mathlib.Core.Path.{ap, ◌∙◌}
 use native.Mathlib.Omega.{arith}
 use Rattle.refusals.specs.Refusal.{number_of}
 use Rattle.summary.specs.Summary.{length_rule}
-use Rattle.summary.proofs.Answered.{handed-on}
+use Rattle.refusals.proofs.Told.{handed-on}
 use Rattle.summary.proofs.Places.{rule-unread, broken-at, rule-kept}
 use Rattle.summary.proofs.RuleLaws.{length-short, length-long, length-kept}
 use Rattle.summary.proofs.reader.length_at.Goals as goal
