@@ -1,9 +1,9 @@
 // Two page areas: the refusals, and the lowest page that differs.
-ghost use Rattle.std.specs.Prelude.{◌≡◌, true, false, ◌<◌, length, ltb, None};
+ghost use Rattle.std.specs.Prelude.{◌≡◌, true, false, ◌<◌, max, length, ltb, None};
 ghost use Rattle.refusals.specs.Verdict.{verdict, told};
 ghost use Rattle.endian.specs.Pick.{pick};
 ghost use Rattle.wal.specs.Walk.{entries};
-ghost use Rattle.page.specs.Layout.{page_bytes, data_type, pages_in, page_at, type_of};
+ghost use Rattle.page.specs.Layout.{page_bytes, data_type, count_of, pages_in, page_at, type_of};
 ghost use Rattle.page.specs.Fault.{fault_of};
 ghost use Rattle.rules.specs.Lent.{lent};
 ghost use Rattle.rules.specs.Mend.{top_of};
@@ -19,6 +19,7 @@ use cells::Scratch;
 use crc32c::inner::Tables;
 use endian::{Lsn, PageNumber};
 use images::Slots;
+use images::inner::slots_for;
 use page::PAGE_BYTES;
 use page::inner::{fault, first_bad, page_at};
 use recovery::inner::decide_page;
@@ -74,9 +75,10 @@ fn untouched(t: &Tables, magic: u64, log: &[u8], i: usize, p: &[u8], q: &[u8]) -
     }
 }
 
-// The same of a touched page, a Data page before.
-fn touched(t: &Tables, magic: u64, slots: &Slots, q: &[u8]) -> PageJudged
+// The same of a touched page, a Data page before, which is to have n slots.
+fn touched(t: &Tables, magic: u64, slots: &Slots, n: usize, q: &[u8]) -> PageJudged
     requires sound { Sound slots.now.page.now }
+    requires n_value { n ≡ max (count_of slots.now.page.now) (top_of slots.now.i (entries slots.now.log.now)) }
     requires nonzero { (0 < top_of slots.now.i (entries slots.now.log.now)) × (length q.now ≡ page_bytes) × (type_of slots.now.page.now ≡ data_type) }
     ensures { PageKnown magic (entries slots.now.log.now) slots.now.i slots.now.page.now q.now result }
 {
@@ -94,7 +96,7 @@ fn touched(t: &Tables, magic: u64, slots: &Slots, q: &[u8]) -> PageJudged
     }
     PageJudged {
         sound: true,
-        finding: slots_finding(slots, q),
+        finding: slots_finding(slots, n, q),
     }
 }
 
@@ -109,12 +111,14 @@ fn page_judged(
     s: &Scratch,
     cells: &mut [u32; 4080],
 ) -> PageJudged
-    requires ready { Ready log.now before.now s.now }
+    requires ready { Ready log.now before.now s.now.starts s.now.lists s.now.fronts s.now.space }
     requires faultless { Faultless magic before.now }
     requires before_len { (length before.now ≡ length after.now) × (i < pages_in before.now) }
     ensures { PageKnown magic (entries log.now) i (page_at i before.now) (page_at i after.now) result }
 {
-    let top = decide_page(log, before, i, s, cells);
+    let top = decide_page(
+        log, before, i, &s.starts, &s.lists, &s.fronts, &s.space, cells,
+    );
     let page = page_at(before, i);
     let q = page_at(after, i);
     if top == 0 {
@@ -127,7 +131,8 @@ fn page_judged(
         top,
         cells,
     };
-    touched(t, magic, &slots, q)
+    let n = slots_for(page, &s.starts, i);
+    touched(t, magic, &slots, n, q)
 }
 
 // What is known behind page i, of which g was found: a difference of an earlier page stays, and the pages before the first do not count.
@@ -147,7 +152,7 @@ fn compare(
     first: usize,
     s: &Scratch,
 ) -> Finding
-    requires ready { Ready log.now before.now s.now }
+    requires ready { Ready log.now before.now s.now.starts s.now.lists s.now.fronts s.now.space }
     requires faultless { Faultless magic before.now }
     requires before_len { length before.now ≡ length after.now }
     ensures { result ≡ compared_from magic (entries log.now) before.now after.now first }

@@ -1,8 +1,9 @@
 // One page before and after: the lowest slot in which it differs from what recovery would leave.
-ghost use Rattle.std.specs.Prelude.{◌≡◌, ◌+◌, ◌≤◌, length};
+ghost use Rattle.std.specs.Prelude.{◌≡◌, ◌+◌, ◌≤◌, max, length};
 ghost use Rattle.endian.specs.Numbers.{part};
 ghost use Rattle.wal.specs.Walk.{entries};
-ghost use Rattle.page.specs.Layout.{page_bytes};
+ghost use Rattle.page.specs.Layout.{page_bytes, count_of};
+ghost use Rattle.rules.specs.Mend.{top_of};
 ghost use Rattle.rules.specs.Shape.{same};
 ghost use Rattle.change.specs.Tuples.{Lies, tuple_in};
 ghost use Rattle.images.specs.Page.{Sound};
@@ -75,13 +76,14 @@ fn slot_agrees(slots: &Slots, q: &[u8], k: usize) -> bool
     same_tuple(slots.log, slots.page, m, q, o.place, o.length)
 }
 
-// The lowest slot of a page, which now is q, that does not.
-pub fn slots_finding(slots: &Slots, q: &[u8]) -> Finding
+// The lowest slot of a page, which now is q, that does not; recovery would leave own slots.
+pub fn slots_finding(slots: &Slots, own: usize, q: &[u8]) -> Finding
     requires sound { Sound slots.now.page.now }
+    requires own_value { own ≡ max (count_of slots.now.page.now) (top_of slots.now.i (entries slots.now.log.now)) }
     requires sound_2 { Sound q.now }
     ensures { result ≡ slots_from (slot_agrees (entries slots.now.log.now) slots.now.i slots.now.page.now q.now) slots.now.i (slots_in (entries slots.now.log.now) slots.now.i slots.now.page.now q.now) 0 }
 {
-    let n = slots.count().max(count(q));
+    let n = own.max(count(q));
     for k in 0..n {
         if !slot_agrees(slots, q, k) {
             return difference(slots.i, k);

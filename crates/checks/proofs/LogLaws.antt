@@ -33,7 +33,6 @@ use Rattle.states.proofs.Clashes.{Clear, clear_none, clear-snoc, clash-is}
 use Rattle.cells.specs.Cell.{Starts}
 use Rattle.cells.specs.Listing.{Lists}
 use Rattle.cells.specs.Measure.{Lasts, Sound, FirstBeyond}
-use Rattle.cells.specs.declared.Scratch.{Scratch}
 use Rattle.clash.specs.First.{FirstIn}
 use Rattle.clash.proofs.VerdictLaws.{clash-all}
 use Rattle.checks.specs.Judged.{Measured}
@@ -115,14 +114,14 @@ module _ {full : ℕ → Bool} {s : List ℕ} (header : header_fault s ≡ 0) {w
   judged-walk h = sym (log_is f bytes c header ∙ rw (le-ltb r (stop_of w) h))
 
 -- what is measured before the walk's stop, where that is the end
-pub measured-all : {full : ℕ → Bool} {s : List ℕ} {w : Result Walked Refused} {v : Walked} {n b : ℕ} {c : Scratch} → FirstWalk full s w → w ≡ Ok v → Starts (before s (stop_of w)) n c.starts → Lasts s (stop_of w) n c.lasts
-    → Lists (before s (stop_of w)) n c.lists → FirstBeyond s (stop_of w) n b → Measured s n c (record { walked = v; beyond = b })
-measured-all {s = s} {v = v} {n = n} {b = b} {c = c} f q st la li be =
+pub measured-all : {full : ℕ → Bool} {s : List ℕ} {w : Result Walked Refused} {v : Walked} {n b : ℕ} {starts lasts lists : List ℕ} → FirstWalk full s w → w ≡ Ok v → Starts (before s (stop_of w)) n starts → Lasts s (stop_of w) n lasts
+    → Lists (before s (stop_of w)) n lists → FirstBeyond s (stop_of w) n b → Measured s n starts lasts lists (record { walked = v; beyond = b })
+measured-all {s = s} {v = v} {n = n} {b = b} {starts = starts} {lasts = lasts} {lists = lists} f q st la li be =
     record {
       end = f.ends v q;
       last = f.last v q;
-      begin = subst (λ (es : List Entry). Starts es n c.starts) (before-all f q) st;
-      touched = subst (λ (p : ℕ). Lasts s p n c.lasts) (stops f q) la;
-      next = subst (λ (es : List Entry). Lists es n c.lists) (before-all f q) li;
+      begin = subst (λ (es : List Entry). Starts es n starts) (before-all f q) st;
+      touched = subst (λ (p : ℕ). Lasts s p n lasts) (stops f q) la;
+      next = subst (λ (es : List Entry). Lists es n lists) (before-all f q) li;
       beyond = subst (λ (p : ℕ). FirstBeyond s p n b) (stops f q) be;
     }

@@ -8,22 +8,21 @@ use Rattle.rules.specs.Order.{last_lsn, log_verdict}
 use Rattle.cells.specs.Cell.{Starts}
 use Rattle.cells.specs.Listing.{Lists}
 use Rattle.cells.specs.Measure.{Lasts, FirstBeyond}
-use Rattle.cells.specs.declared.Scratch.{Scratch}
 use Rattle.checks.specs.declared.Found.{Found}
 
 -- of an accepted log its end and its last LSN, the place of the first change beyond the first n pages, where the cells and the lists of these start, and the places of the last changes on them
-pub record Measured (s : List ℕ) (n : ℕ) (c : Scratch) (f : Found) : Type 0 where
+pub record Measured (s : List ℕ) (n : ℕ) (starts lasts lists : List ℕ) (f : Found) : Type 0 where
   pub end : f.walked.end ≡ end_of s
   pub last : f.walked.last.0 ≡ last_lsn (entries s)
-  pub begin : Starts (entries s) n c.starts
-  pub touched : Lasts s (end_of s) n c.lasts
-  pub next : Lists (entries s) n c.lists
+  pub begin : Starts (entries s) n starts
+  pub touched : Lasts s (end_of s) n lasts
+  pub next : Lists (entries s) n lists
   pub beyond : FirstBeyond s (end_of s) n f.beyond
 
 -- the verdict on the log; accepted, what is measured
-pub record Judged (full : ℕ → Bool) (s : List ℕ) (n : ℕ) (c : Scratch) (r : Result Found Refused) : Type 0 where
+pub record Judged (full : ℕ → Bool) (s : List ℕ) (n : ℕ) (starts lasts lists : List ℕ) (r : Result Found Refused) : Type 0 where
   pub tells : told r ≡ log_verdict full s
-  pub measured : IfOk r (Measured s n c)
+  pub measured : IfOk r (Measured s n starts lasts lists)
 
 -- each touched one of the first n pages is of type 1; the cells of a touched page end behind their start
 pub record OfData (pages : List ℕ) (n : ℕ) (starts : List ℕ) : Type 0 where

@@ -13,7 +13,6 @@ ghost use Rattle.order.specs.First.{full_of, stop_of};
 ghost use Rattle.checks.specs.Judged.{Judged, OfData};
 
 use crate::{Found, PLACES};
-use cells::Scratch;
 use cells::inner::{measure, page_at};
 use change::inner::is_change;
 use clash::inner::clash;
@@ -43,21 +42,23 @@ pub fn judge_log(
     log: &[u8],
     n: usize,
     records: Option<u64>,
-    s: &mut Scratch,
+    starts: &mut [u32; 4097],
+    lasts: &mut [u32; 4096],
+    lists: &mut [u32; 4097],
+    space: &mut [u8; 655360],
     begins: &mut [u32; PLACES],
     ends: &mut [u32; PLACES],
 ) -> Result<Found, Refused>
     requires { n ≤ 4096 }
-    ensures judged { Judged (full_of records) log.now n s.new result }
-    ensures kept { s.new.fronts ≡ s.old.fronts }
+    ensures { Judged (full_of records) log.now n starts.new lasts.new lists.new result }
 {
     if let Err(refusal) = header_fault(log) {
         return Err(refusal.at(0));
     }
     let walked = walk(t, log, records, &mut begins[..], &mut ends[..]);
     let stop = stop_of(walked);
-    let beyond = measure(log, stop, n, s);
-    let at = clash(log, stop, n, beyond, &s.starts, &mut s.space);
+    let beyond = measure(log, stop, n, starts, lasts, lists);
+    let at = clash(log, stop, n, beyond, starts, space);
     if at < stop {
         return Err(Refusal::Clash.at(at));
     }

@@ -1,9 +1,9 @@
-// The tables as a type of its own: what it holds is filled.
+// The tables as a type of its own: what it holds is filled. A caller may fill its own and lend it, as before there was a type.
 ghost use Rattle.crc32c.specs.Tables.{Tables as AreTables};
 
 // Sixteen tables, one behind the other.
-#[derive(Drop)]
+#[derive(Clone, Copy)]
 pub struct Tables {
-    pub(crate) words: [u32; 4096],
+    pub words: [u32; 4096],
     pub ghost filled: { AreTables words },
 }

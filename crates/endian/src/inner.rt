@@ -91,10 +91,12 @@ pub fn put_u64(s: &mut [u8], at: usize, n: u64)
     put_u32(s, at + 4, (n / 4294967296) as u32);
 }
 
-// Copies all of src into dst from place at on.
+// Copies all of src into dst from place at on. Byte by byte: `copy_from_slice` would need a `memmove` of those who link the C library.
 pub fn copy_in(dst: &mut [u8], at: usize, src: &[u8])
     requires { at + length src.now ≤ length dst.old }
     ensures { dst.new ≡ paste dst.old at src.now (length src.now) }
 {
-    dst[at..at + src.len()].copy_from_slice(src);
+    for (j, b) in src.iter().enumerate() {
+        dst[at + j] = *b;
+    }
 }

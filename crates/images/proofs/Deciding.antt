@@ -1,8 +1,9 @@
 -- The cells of one page, as code finds them, and what they decide. Assumes nothing.
-use Prim.Native.Nat.{ℕ, ◌/◌, ◌%◌, ◌≤◌, ◌<◌, max}
-use mathlib.Core.Path.{◌≡◌, sym, ap, subst, ◌∙◌}
+use Prim.Native.Nat.{ℕ, ◌+◌, ◌-◌, ◌/◌, ◌%◌, ◌≤◌, ◌<◌, max}
+use mathlib.Core.Path.{◌≡◌, refl, sym, ap, subst, ◌∙◌}
 use mathlib.Core.Bool.{Bool}
 use mathlib.Core.List.{List}
+use native.Mathlib.Numerals.{add-one}
 use native.Mathlib.Omega.{arith}
 use lib.ListN.{get_or}
 use borrow.Author.Tests.{eq-eqb, ne_eqb}
@@ -21,6 +22,8 @@ use Rattle.rules.proofs.Slots.{decided-untouched}
 use Rattle.rules.proofs.Standings.{changes-by, none-past}
 use Rattle.fates.specs.Fate.{Ordered}
 use Rattle.fates.proofs.Turns.{turn_at, passes_at}
+use Rattle.cells.specs.Cell.{Starts}
+use Rattle.cells.proofs.CellLaws.{start-next}
 use Rattle.decide.specs.Decide.{won, ChangeAt, Decided}
 use Rattle.decide.proofs.Marks.{won-none}
 use Rattle.decide.proofs.Pages.{cell-wins}
@@ -73,7 +76,21 @@ standing-past : (s : List ℕ) (i k : ℕ) → top_of i (entries s) ≤ k → (d
 unfolding standing_by
 standing-past s i k l d = rw (none-past s i k (λ v. in_log (before_at v)) (λ v. in_log (after_at v)) (views s) l)
 
--- ---- how high the page's touched slots go
+-- ---- the starts of pages, and how high the page's touched slots go
+
+module _ {es : List Entry} {n : ℕ} {starts : List ℕ} (t : Starts es n starts) (i : ℕ) (h : i < n) where
+  start-after : get_or starts (i + 1) 0 ≡ get_or starts i 0 + top_of i es
+  start-after = omega (arith, t.at i (omega arith), t.at (i + 1) (omega arith), rw (← add-one i) at (start-next es i))
+
+  pub top-asked : n ≤ 4096 → (i < 4096) × (get_or starts i 0 ≤ get_or starts (i + 1) 0)
+  top-asked q = (omega arith, omega (arith, start-after))
+
+  pub top-found : {x : ℕ} → x ≡ get_or starts (i + 1) 0 - get_or starts i 0 → x ≡ top_of i es
+  top-found e = omega (arith, start-after)
+
+  -- how many slots the page is to have
+  pub slots-found : {x : ℕ} (c : ℕ) → x ≡ max c (get_or starts (i + 1) 0 - get_or starts i 0) → x ≡ max c (top_of i es)
+  slots-found c e = e ∙ ap (max c) (top-found refl)
 
 -- a page that has room for its slots has room for four bytes of each
 pub top-fits : (c : ℕ → Bool) (es : List Entry) (i : ℕ) (p : List ℕ) → room_for (slots_for c es i p) ≤ body_bytes → top_of i es ≤ 4080

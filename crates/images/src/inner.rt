@@ -1,8 +1,8 @@
 // What other crates call with a `requires`: the image that a slot is to hold.
-ghost use Rattle.std.specs.Prelude.{◌≡◌, List, ℕ, ◌/◌, max, length};
+ghost use Rattle.std.specs.Prelude.{◌≡◌, List, ℕ, ◌+◌, ◌-◌, ◌/◌, ◌≤◌, ◌<◌, max, length, get_or};
 ghost use Rattle.wal.specs.Walk.{entries};
 ghost use Rattle.page.specs.Layout.{page_bytes, count_of, slot_at};
-ghost use Rattle.rules.specs.Mend.{committed, top_of, decided};
+ghost use Rattle.rules.specs.Mend.{committed, decided};
 ghost use Rattle.fates.specs.Fate.{Ordered};
 ghost use Rattle.rules.specs.Row.{Standing, in_log};
 ghost use Rattle.change.specs.declared.Source.TheVariants.{Log};
@@ -69,15 +69,23 @@ pub fn kept_image(page: &[u8], k: usize) -> Image
     in_page(HEAD_BYTES + slot_off(page, k), slot_len(page, k))
 }
 
-impl<'a> Slots<'a> {
-    // How many slots the page is to have.
-    pub fn count(&self) -> usize
-        requires { length self.now.page.now ≡ page_bytes }
-        ensures { result ≡ max (count_of self.now.page.now) (top_of self.now.i (entries self.now.log.now)) }
-    {
-        count(self.page).max(self.top)
-    }
+// One more than the highest touched slot of page i, by the starts of the pages.
+pub fn top_of(starts: &[u32; 4097], i: usize) -> usize
+    requires { (i < 4096) × (get_or starts.now i 0 ≤ get_or starts.now (i + 1) 0) }
+    ensures { result ≡ get_or starts.now (i + 1) 0 - get_or starts.now i 0 }
+{
+    (starts[i + 1] - starts[i]) as usize
+}
 
+// How many slots page i is to have.
+pub fn slots_for(page: &[u8], starts: &[u32; 4097], i: usize) -> usize
+    requires { (length page.now ≡ page_bytes) × (i < 4096) × (get_or starts.now i 0 ≤ get_or starts.now (i + 1) 0) }
+    ensures { result ≡ max (count_of page.now) (get_or starts.now (i + 1) 0 - get_or starts.now i 0) }
+{
+    count(page).max(top_of(starts, i))
+}
+
+impl<'a> Slots<'a> {
     // The image that slot k is to hold.
     pub fn image(&self, k: usize) -> Image
         requires { Sound self.now.page.now }

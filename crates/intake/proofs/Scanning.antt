@@ -128,7 +128,7 @@ module _ (k : ℕ → ℕ) (b : List ℕ) where
               let m = at.2 y h (e ∙ ap k q) in
               elim (dec_le y f) [ yes a ↦ inr (omega arith, omega arith) | no a ↦ inl (omega arith) ]
 
-      one_more : (p : Option Pair) → Least k b d p → Least k b (d ++ (x ∷ [])) (lesser_of p f x)
+      pub one_more : (p : Option Pair) → Least k b d p → Least k b (d ++ (x ∷ [])) (lesser_of p f x)
       unfolding lesser_of
       one_more p w = go (leb x f) refl p w (begins_by p f) refl
         where

@@ -59,7 +59,8 @@ pub fn find(magic: u64, pages: &[u8], mark: &[u8; 16]) -> Result<FoundOrder, Ref
 pub fn repeated(magic: u64, pages: &[u8]) -> Result<Option<RepeatedOrders>, Refused>
     ensures { by_number result ≡ orders_repeated magic pages.now }
 {
-    page::verify(magic, pages)?;
+    // made before any test: docs/DECISIONS.md says why
     let mut block = [0u64; BLOCK_PLACES];
+    page::verify(magic, pages)?;
     Ok(pairs::repeated(pages, &mut block))
 }

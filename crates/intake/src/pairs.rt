@@ -102,7 +102,8 @@ fn lesser(best: Option<Pair>, first: u64, second: u64) -> Option<Pair>
         return best;
     }
     if let Some(p) = best {
-        if p.first <= first {
+        let kept = p.first <= first;
+        if kept {
             return best;
         }
     }

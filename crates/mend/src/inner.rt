@@ -3,12 +3,13 @@ ghost use Rattle.std.specs.Prelude.{◌≡◌, ◌+◌, ◌-◌, ◌*◌, ◌≤
 ghost use Rattle.std.proofs.Math.Seq.{paste};
 ghost use Rattle.endian.specs.Numbers.{bytes_of, number_at};
 ghost use Rattle.wal.specs.Walk.{entries, end_of};
-ghost use Rattle.page.specs.Layout.{page_bytes, body_bytes, body_of, page_at, magic_of, type_of, id_of, lsn_of};
+ghost use Rattle.page.specs.Layout.{page_bytes, body_bytes, body_of, count_of, page_at, magic_of, type_of, id_of, lsn_of};
 ghost use Rattle.page.specs.Packed.{room_for, body, tuple_bytes};
 ghost use Rattle.page.specs.Writer.{with_slot};
 ghost use Rattle.rules.specs.Order.{one};
-ghost use Rattle.rules.specs.Mend.{committed, slots_for, repacked, mend};
+ghost use Rattle.rules.specs.Mend.{committed, top_of, slots_for, repacked, mend};
 ghost use Rattle.rules.specs.Recover.{is_touched, mended_from, touched_from};
+ghost use Rattle.cells.specs.Cell.{Starts};
 ghost use Rattle.cells.specs.Measure.{LastAt, Lasts};
 ghost use Rattle.change.specs.Tuples.{Lies, tuple_in};
 ghost use Rattle.images.specs.Page.{Sound, Touched, Fitting};
@@ -19,7 +20,7 @@ use decide::Changes;
 use endian::Lsn;
 use endian::inner::{put_u64, u64_at};
 use images::Slots;
-use images::inner::bytes;
+use images::inner::{bytes, slots_for, top_of};
 use page::inner::{id, kind, lsn, magic, page_at, put_slot, seal, store};
 use page::{BODY_BYTES, HEAD_BYTES, PAGE_BYTES, PageHead, RESERVED_AT};
 
@@ -47,15 +48,15 @@ fn put_image(work: &mut [u8], k: usize, top: usize, log: &[u8], page: &[u8], m: 
     start
 }
 
-// Fills a zeroed working page with the slots that a page is to have and their tuples. Gives back where the last tuple starts.
-fn fill(work: &mut [u8], slots: &Slots) -> usize
+// Fills a zeroed working page with the n slots that a page is to have and their tuples. Gives back where the last tuple starts.
+fn fill(work: &mut [u8], slots: &Slots, n: usize) -> usize
     requires work_value { work.old ≡ replicate page_bytes 0 }
     requires sound { Sound slots.now.page.now }
+    requires n_value { n ≡ max (count_of slots.now.page.now) (top_of slots.now.i (entries slots.now.log.now)) }
     requires fits { room_for (slots_for (committed (entries slots.now.log.now)) (entries slots.now.log.now) slots.now.i slots.now.page.now) ≤ body_bytes }
     ensures value { result ≡ body_bytes - tuple_bytes (slots_for (committed (entries slots.now.log.now)) (entries slots.now.log.now) slots.now.i slots.now.page.now) }
     ensures work_after { body_of work.new ≡ body (slots_for (committed (entries slots.now.log.now)) (entries slots.now.log.now) slots.now.i slots.now.page.now) }
 {
-    let n = slots.count();
     let mut top = BODY_BYTES;
     for k in 0..n {
         let m = slots.image(k);
@@ -78,62 +79,68 @@ fn head_for(log: &[u8], page: &[u8], at: usize) -> PageHead
     }
 }
 
-// Writes a page, repacked, into a zeroed working page; the last change on it is at the place last.
-fn repack(t: &Tables, work: &mut [u8], slots: &Slots, last: usize)
+// Writes a page, repacked with its n slots, into a zeroed working page; the last change on it is at the place last.
+fn repack(t: &Tables, work: &mut [u8], slots: &Slots, n: usize, last: usize)
     requires work_value { work.old ≡ replicate page_bytes 0 }
     requires sound { Sound slots.now.page.now }
+    requires n_value { n ≡ max (count_of slots.now.page.now) (top_of slots.now.i (entries slots.now.log.now)) }
     requires last_at { LastAt slots.now.log.now (end_of slots.now.log.now) slots.now.i last }
     requires fits { room_for (slots_for (committed (entries slots.now.log.now)) (entries slots.now.log.now) slots.now.i slots.now.page.now) ≤ body_bytes }
     ensures { work.new ≡ repacked (committed (entries slots.now.log.now)) (entries slots.now.log.now) slots.now.i slots.now.page.now }
 {
-    let top = fill(work, slots);
+    let top = fill(work, slots, n);
     let h = head_for(slots.log, slots.page, last);
-    seal(
-        t,
-        work,
-        h,
-        &slots.page[RESERVED_AT..HEAD_BYTES],
-        slots.count(),
-        top,
-    );
+    seal(t, work, h, &slots.page[RESERVED_AT..HEAD_BYTES], n, top);
 }
 
 // Mends page i in its place: built in a working page first. Says how many pages it rewrote, 0 or 1.
 fn mend_page(
     t: &Tables,
     changes: &Changes,
+    starts: &[u32; 4097],
+    lasts: &[u32; 4096],
     pages: &mut [u8],
     i: usize,
     cells: &mut [u32; 4080],
 ) -> u64
-    requires lasts { Lasts changes.now.log.now (end_of changes.now.log.now) changes.now.n changes.now.scratch.now.lasts }
+    requires starts { Starts (entries changes.now.log.now) changes.now.n starts.now }
+    requires lasts { Lasts changes.now.log.now (end_of changes.now.log.now) changes.now.n lasts.now }
     requires touched { Touched changes.now.log.now pages.old i (i + 1) }
     requires fitting { Fitting changes.now.log.now pages.old i (i + 1) }
     requires i_lt_n { (i < changes.now.n) × (length pages.old ≡ changes.now.n * page_bytes) }
     ensures pages_after { pages.new ≡ paste pages.old (i * page_bytes) (mend (entries changes.now.log.now) i (page_at i pages.old)) page_bytes }
     ensures value { result ≡ one (is_touched (entries changes.now.log.now) i) }
 {
-    let top = changes.top(i);
+    let top = top_of(starts, i);
     if top == 0 {
         return 0;
     }
     changes.decide(i, top, cells);
     let mut work = [0u8; PAGE_BYTES];
+    let page = page_at(pages, i);
     let slots = Slots {
         log: changes.log,
-        page: page_at(pages, i),
+        page,
         i,
         top,
         cells,
     };
-    repack(t, &mut work, &slots, changes.scratch.lasts[i] as usize);
+    let n = slots_for(page, starts, i);
+    repack(t, &mut work, &slots, n, lasts[i] as usize);
     store(pages, i, &work);
     1
 }
 
 // Mends all pages and says how many it rewrote.
-pub fn mend_all(t: &Tables, changes: &Changes, pages: &mut [u8]) -> u64
-    requires lasts { Lasts changes.now.log.now (end_of changes.now.log.now) changes.now.n changes.now.scratch.now.lasts }
+pub fn mend_all(
+    t: &Tables,
+    changes: &Changes,
+    starts: &[u32; 4097],
+    lasts: &[u32; 4096],
+    pages: &mut [u8],
+) -> u64
+    requires starts { Starts (entries changes.now.log.now) changes.now.n starts.now }
+    requires lasts { Lasts changes.now.log.now (end_of changes.now.log.now) changes.now.n lasts.now }
     requires touched { Touched changes.now.log.now pages.old 0 changes.now.n }
     requires fitting { Fitting changes.now.log.now pages.old 0 changes.now.n }
     requires n_value { length pages.old ≡ changes.now.n * page_bytes }
@@ -143,7 +150,7 @@ pub fn mend_all(t: &Tables, changes: &Changes, pages: &mut [u8]) -> u64
     let mut cells = [0u32; 4080];
     let mut rewritten: u64 = 0;
     for i in 0..changes.n {
-        rewritten += mend_page(t, changes, pages, i, &mut cells);
+        rewritten += mend_page(t, changes, starts, lasts, pages, i, &mut cells);
     }
     rewritten
 }

@@ -30,7 +30,8 @@ pub fn walk(
         return s.found;
     }
     let place = by_blocks(log, s.stop, begins, ends);
-    if place < s.stop {
+    let earlier = place < s.stop;
+    if earlier {
         return Err(Refusal::TransactionOrder.at(place));
     }
     s.found

@@ -202,7 +202,7 @@ module _ (shows : List ℕ → Bool) (i k : ℕ) where
         ap (first_at i k) one-page ∙ none_then i k (page_rows shows i (page_at i s)) (rows_from shows s (n - (i + 1)) (i + 1)) e
         ∙ rw (add-one i) (later-pages s (n - suc i) (suc i) (omega arith))
 
-    page-found : (first_at i k (page_rows shows i (page_at i s)) ≡ None → ⊥) → first_at i k (rows_from shows s (n - i) i) ≡ first_at i k (page_rows shows i (page_at i s))
+    pub page-found : (first_at i k (page_rows shows i (page_at i s)) ≡ None → ⊥) → first_at i k (rows_from shows s (n - i) i) ≡ first_at i k (page_rows shows i (page_at i s))
     page-found h = ap (first_at i k) one-page ∙ some_then i k (page_rows shows i (page_at i s)) (rows_from shows s (n - (i + 1)) (i + 1)) h
 
     pub page-some : (r : Row) → first_at i k (page_rows shows i (page_at i s)) ≡ Some r → first_at i k (rows_from shows s (n - i) i) ≡ Some r

@@ -18,7 +18,8 @@ fn is_visible(page: &[u8; PAGE_BYTES], k: usize) -> bool
     ensures { result ≡ visible (slot_at page.now k) }
 {
     let o = slot_off(page, k);
-    if page[DELETED_AT + o] != 0 {
+    let deleted = page[DELETED_AT + o] != 0;
+    if deleted {
         return false;
     }
     u64_at(page, XMAX_AT + o) == 0

@@ -75,7 +75,7 @@ module _ (full : ℕ → Bool) (magic floor : ℕ) (pages log : List ℕ) (size 
   pub err-log : (e : Refused) → told_by e ≡ log_verdict full log → told_by e ≡ recover_verdict full (lent magic floor pages log)
   err-log e h = judge-log full magic floor pages log size (told_by e) h (refused-some e)
 
-  module _ (lt : accepted ≡ log_verdict full log) {n : ℕ} {c : Scratch} {f : Found} (m : Measured log n c f) where
+  module _ (lt : accepted ≡ log_verdict full log) {n : ℕ} {starts lasts lists : List ℕ} {f : Found} (m : Measured log n starts lasts lists f) where
     log-zero : (log_verdict full log).number ≡ 0
     log-zero = sym (ap (λ (v : Verdict). v.number) lt)
 

@@ -11,7 +11,7 @@ use Rattle.recovery.specs.declared.Judged.{Judged}
 use Rattle.recovery.proofs.Outcome.{sure}
 
 module _ {magic floor : ℕ} {pages log : List ℕ} {c : Scratch} {j : Judged} (g : Judgement never_full magic floor pages log c (Ok j)) where
-  pub ready : Ready log pages c
+  pub ready : Ready log pages c.starts c.lists c.fronts c.space
   ready =
       let v = sym (ap (λ (v : Verdict). v.number) g.tells) in
       let a = g.accepted in

@@ -6,18 +6,17 @@ use Rattle.rules.specs.Mend.{top_of}
 use Rattle.fates.specs.Fate.{Ordered}
 use Rattle.cells.specs.Cell.{Starts}
 use Rattle.cells.specs.Listing.{Lists}
-use Rattle.cells.specs.declared.Scratch.{Scratch}
 use Rattle.decide.specs.Lists.{Listed}
 use Rattle.images.specs.Page.{Touched, Fitting}
 
-pub record Ready (log pages : List ℕ) (c : Scratch) : Type 0 where
+pub record Ready (log pages starts lists fronts space : List ℕ) : Type 0 where
   pub ordered : Ordered log
   pub small : length log ≤ 16777216
   pub size : length pages ≡ pages_in pages * page_bytes
   pub few : pages_in pages ≤ 4096
-  pub begin : Starts (entries log) (pages_in pages) c.starts
-  pub next : Lists (entries log) (pages_in pages) c.lists
-  pub listed : Listed log (pages_in pages) c.fronts c.space
+  pub begin : Starts (entries log) (pages_in pages) starts
+  pub next : Lists (entries log) (pages_in pages) lists
+  pub listed : Listed log (pages_in pages) fronts space
   pub touched : Touched log pages 0 (pages_in pages)
   pub fitting : Fitting log pages 0 (pages_in pages)
   pub of_data : (i : ℕ) → 0 < top_of i (entries log) → type_of (page_at i pages) ≡ data_type

@@ -14,6 +14,7 @@ use cells::Scratch;
 use crc32c::inner::Tables;
 use decide::Changes;
 use endian::Lsn;
+use images::inner::top_of;
 use page::PAGE_BYTES;
 use refusals::Refused;
 
@@ -27,7 +28,7 @@ pub fn judge(
     s: &mut Scratch,
 ) -> Result<(), Refused>
     ensures value { told result ≡ recover_verdict never_full (lent magic floor.0 pages.now log.now) }
-    ensures ready { OnOk result (Ready log.now pages.now s.new) }
+    ensures ready { OnOk result (Ready log.now pages.now s.new.starts s.new.lists s.new.fronts s.new.space) }
 {
     crate::judge::judge(t, magic, floor, pages, log, None, s)?;
     Ok(())
@@ -38,17 +39,26 @@ pub fn decide_page(
     log: &[u8],
     pages: &[u8],
     i: usize,
-    s: &Scratch,
+    starts: &[u32; 4097],
+    lists: &[u32; 4097],
+    fronts: &[u32; 4096],
+    space: &[u8; 655360],
     cells: &mut [u32; 4080],
 ) -> usize
-    requires ready { Ready log.now pages.now s.now }
+    requires ready { Ready log.now pages.now starts.now lists.now fronts.now space.now }
     requires i_bound { i < pages_in pages.now }
     ensures value { result ≡ top_of i (entries log.now) }
     ensures page_cells { PageCells log.now i result cells.new }
 {
     let n = pages.len() / PAGE_BYTES;
-    let changes = Changes { log, n, scratch: s };
-    let top = changes.top(i);
+    let top = top_of(starts, i);
+    let changes = Changes {
+        log,
+        n,
+        lists,
+        fronts,
+        space,
+    };
     changes.decide(i, top, cells);
     top
 }

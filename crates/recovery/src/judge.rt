@@ -34,12 +34,29 @@ pub fn judge(
         return Err(Refusal::PageArea.at(0));
     }
     let n = pages.len() / PAGE_BYTES;
-    let found = judge_log(t, log, n, records, s, &mut begins, &mut ends)?;
+    let found = judge_log(
+        t,
+        log,
+        n,
+        records,
+        &mut s.starts,
+        &mut s.lasts,
+        &mut s.lists,
+        &mut s.space,
+        &mut begins,
+        &mut ends,
+    )?;
     let walked = found.walked;
     judge_pages(t, magic, floor, walked.last, pages)?;
     stray(log, walked.end, pages, n, &s.starts, found.beyond)?;
-    let tally = gather(log, walked.end, n, s);
-    let changes = Changes { log, n, scratch: s };
-    tight(&changes, pages)?;
+    let tally = gather(log, walked.end, n, &s.lists, &mut s.fronts, &mut s.space);
+    let changes = Changes {
+        log,
+        n,
+        lists: &s.lists,
+        fronts: &s.fronts,
+        space: &s.space,
+    };
+    tight(&changes, &s.starts, pages)?;
     Ok(Judged { walked, tally })
 }

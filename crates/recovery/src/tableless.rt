@@ -77,8 +77,14 @@ fn run(
         Err(e) => return refused_by(e.refusal.number(), e.place),
     };
     let n = pages.len() / PAGE_BYTES;
-    let changes = Changes { log, n, scratch: s };
-    let rewritten = mend_all(t, &changes, pages);
+    let changes = Changes {
+        log,
+        n,
+        lists: &s.lists,
+        fronts: &s.fronts,
+        space: &s.space,
+    };
+    let rewritten = mend_all(t, &changes, &s.starts, &s.lasts, pages);
     let w = j.walked;
     let ending = ending_at(log, w.end).number();
     done_by(w.last, w.end, ending, j.tally, rewritten)

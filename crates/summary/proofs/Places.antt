@@ -2,21 +2,24 @@
 -- Assumes nothing.
 use mathlib.Core.Path.{◌≡◌, refl, sym, ap, ◌∙◌}
 use mathlib.Core.Logic.{◌⊎◌, inl, inr}
-use mathlib.Core.Bool.{Bool, true, false}
+use mathlib.Core.Bool.{Bool, true, false, cond}
 use Prim.Native.Nat.{ℕ, zero, suc, ◌+◌, ◌*◌, ◌-◌, ◌%◌, ◌^◌, ◌≤◌, ◌<◌}
 use native.Mathlib.Decide.{dec_le}
 use native.Mathlib.Numerals.{add-one}
 use native.Mathlib.Omega.{arith}
 use mathlib.Core.List.{List, [], ◌∷◌}
 use lib.ListN.{length, take, drop, get_or, length-drop}
-use lib.Seq.{drop-cons, get_or-drop}
+use lib.Seq.{take_all, drop-cons, get_or-drop}
 use lib.Dec.{ltb, leb, eqb}
-use borrow.Author.Tests.{le-leb, lt-leb, ne_eqb, eqb-true, leb-false}
+use borrow.Author.Tests.{lt-ltb, le-ltb, le-leb, lt-leb, ne_eqb, eqb-true, leb-false}
 use Rattle.endian.specs.Pick.{pick}
 use Rattle.endian.specs.Numbers.{part, Bytes}
 use Rattle.endian.proofs.Bytes.{bytes_drop}
 use Rattle.endian.proofs.Places.{drop-part}
 use Rattle.std.specs.Prelude.{Option, Some, None, Ok, Err}
+use Rattle.std.specs.Option.{option_map}
+use Rattle.std.specs.List.{position_or_len, slice_range}
+use Rattle.std.proofs.lemmas.List.Recursion.{is_position_or_len}
 use Rattle.refusals.specs.Refusal.{number_of}
 use Rattle.refusals.specs.Verdict.{verdict, accepted, told_by}
 use Rattle.refusals.specs.declared.Refused.{Refused}
@@ -38,6 +41,18 @@ leb-suc a b =
       | no l ↦ rw (lt-leb a b (omega arith)) (lt-leb (suc a) (suc b) (omega arith))
     ]
 
+-- where the first byte without the high bit stands
+abbrev pub first-small : List ℕ → Option ℕ
+first-small t = cond (ltb (position_or_len (λ b. ltb b 128) t) (length t)) (Some (position_or_len (λ b. ltb b 128) t)) None
+
+small-continued : (t : List ℕ) → continued t ≡ position_or_len (λ b. ltb b 128) t
+unfolding continued
+small-continued t = is_position_or_len continued (λ b. ltb b 128) refl (λ b u. by-test (ltb b 128) (continued u)) t
+  where
+    by-test : (c : Bool) (n : ℕ) → pick c zero (suc n) ≡ cond c 0 (1 + n)
+    by-test true n = refl
+    by-test false n = omega arith
+
 module _ (f : List ℕ) (p : ℕ) where
   pub end-here : p < length f → get_or f p 0 < 128 → end_of f p ≡ Some p
   unfolding ends_early
@@ -57,6 +72,19 @@ module _ (f : List ℕ) (p : ℕ) where
   pub end-none : length f ≤ p → end_of f p ≡ None
   unfolding ends_early
   end-none l = rw (le-leb (length (drop p f)) (continued (drop p f)) (simp length-drop (omega arith)))
+
+  -- as a search for the first byte without the high bit finds it
+  pub end-searched : (r : Option ℕ) → r ≡ first-small (drop p f) → option_map (λ k. p + k) r ≡ end_of f p
+  unfolding ends_early
+  end-searched r e =
+      elim (dec_le (length (drop p f)) (continued (drop p f))) [
+        | yes l ↦ rw (e, ← small-continued (drop p f), le-ltb (continued (drop p f)) (length (drop p f)) l, le-leb (length (drop p f)) (continued (drop p f)) l)
+        | no l ↦ rw (e, ← small-continued (drop p f), lt-ltb (continued (drop p f)) (length (drop p f)) (omega arith), lt-leb (length (drop p f)) (continued (drop p f)) (omega arith))
+      ]
+
+  -- in the part of the file from the place on
+  pub end-within : (t : List ℕ) → t ≡ slice_range f p (length f) → (r : Option ℕ) → r ≡ first-small t → option_map (λ k. p + k) r ≡ end_of f p
+  end-within t e r h = end-searched r (h ∙ ap first-small (e ∙ take_all (length f - p) (drop p f) (simp length-drop (omega arith))))
 
   -- found, or not
   pub end-found : (end : ℕ) → Some end ≡ end_of f p → Ends f p end
@@ -208,6 +236,22 @@ module _ (f : List ℕ) (p : ℕ) where
     read-well m =
         let z : refusal_at any_number f p ≡ 0 = reads-refusal f p any_number (record { whole = ends-whole f p end e; well = m }) in
         sym (rw (z, after-end f p end e))
+
+-- a byte without the high bit is a number of one group
+module _ (f : List ℕ) (p : ℕ) (y : Bytes f) (l : p < length f) (h : get_or f p 0 < 128) where
+  single : Ends f p p
+  single = end-found f p p (sym (end-here f p l h))
+
+  value-single : get_or f p 0 ≡ value_at f p
+  value-single =
+      let i : p + 1 - 1 ≡ p = omega arith in
+      let u = rw i at (upto-more f p p single (p + 1) (omega arith) (omega arith)) in
+      omega (arith, h, u, upto-none f p p single, upto_all f p p single)
+
+  pub read-single : Ok (taken (get_or f p 0) (p + 1)) ≡ number_at any_number f p
+  read-single =
+      let m : misspelt (spelling (drop p f)) ≡ false = sym (one-group f p p single y (omega arith)) in
+      ap (λ (v : ℕ). Ok (taken v (p + 1))) value-single ∙ read-well f p p y single m
 
 -- a number that was read under a rule
 module _ (rule : ℕ → ℕ) (f : List ℕ) (p : ℕ) where

@@ -61,12 +61,9 @@ pub fn put_three(area: &mut [u8], at: usize, a: u64, b: u64, c: u64) -> usize
 fn last_group(file: &[u8], at: usize) -> Option<usize>
     ensures { result ≡ end_of file.now at }
 {
-    for p in at..file.len() {
-        if file[p] < 128 {
-            return Some(p);
-        }
-    }
-    None
+    let groups = file.get(at..)?;
+    let before = groups.iter().position(|group| *group < 128)?;
+    Some(at + before)
 }
 
 // Whether the number at a place, whose last group stands at end, has more groups than the fewest or is over 64 bits.
@@ -98,16 +95,24 @@ fn value(file: &[u8], at: usize, end: usize) -> u64
     ensures { result ≡ value_at file.now at }
 {
     let mut n: u64 = 0;
-    for p in (at..end + 1).rev() {
+    let mut p = end + 1;
+    while at < p {
+        p -= 1;
         n = 128 * n + u64::from(file[p]) % 128;
     }
     n
 }
 
-// Reads the number at a place, whatever it is.
+// Reads the number at a place, whatever it is. Most numbers have one group: a byte without the high bit is the number itself.
 pub fn read(file: &[u8], at: usize) -> Result<Number, Refused>
     ensures { by_number result ≡ number_at any_number file.now at }
 {
+    if at < file.len() && file[at] < 128 {
+        return Ok(Number {
+            value: u64::from(file[at]),
+            after: at + 1,
+        });
+    }
     let Some(end) = last_group(file, at) else {
         return Err(Refusal::SummaryEndsEarly.at(at));
     };

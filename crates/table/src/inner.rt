@@ -11,7 +11,7 @@ ghost use Rattle.table.specs.Telling.{reach, guessed, Orderly, new_row, begun_ro
 use crate::rows::{key_at, put, row_at, sort, sorted};
 use crate::{Row, STRIDE};
 use endian::{Lsn, TxnNumber};
-use sorting::inner::partition_point;
+use sorting::inner::binary_search_by_key;
 use wal::inner::known_at;
 use wal::{FIRST, Kind, Reading};
 
@@ -33,12 +33,7 @@ fn search(a: &[u64], t: TxnNumber) -> Option<usize>
     requires { Rising 0 (rows a.now) }
     ensures { Found (rows a.now) t.0 result }
 {
-    let n = a.len() / STRIDE;
-    let i = partition_point(n, |i| key_at(a, i, NUMBER) < t.0);
-    if i < n && key_at(a, i, NUMBER) == t.0 {
-        return Some(i);
-    }
-    None
+    binary_search_by_key(a.len() / STRIDE, |i| key_at(a, i, NUMBER), t.0)
 }
 
 // Where the guess for transaction t is kept.

@@ -1,18 +1,11 @@
 -- The log reader: the lent log and its own place (paper 01, Log; paper 02, W11).
 use Rattle.std.specs.Prelude.{ℕ, zero, suc, ◌+◌, List, [], Bool, Option, Some, None}
 use Rattle.endian.specs.Pick.{pick}
-use Rattle.refusals.specs.Refusal.{number_of}
-use Rattle.refusals.specs.declared.Refusal.{Refusal}
 use Rattle.wal.specs.Read.{header_fault, first}
 use Rattle.wal.specs.Walk.{end_of}
 use Rattle.wal.specs.declared.EntryView.{EntryView}
 use Rattle.wal.specs.declared.Reading.{Reading}
 use Rattle.wal.specs.declared.Reading.TheVariants.{Whole, End, Torn, Unused, Damage}
-
--- the number of a reader's refusal, 0 for none
-abbrev pub refusal_number : Option Refusal → ℕ
-refusal_number (Some e) = number_of e
-refusal_number None = 0
 
 -- the log that a reader holds: the lent one, or an empty one where that is refused
 abbrev pub unless_refused : {A : Type 0} → ℕ → A → A → A

@@ -1,17 +1,16 @@
 // A reader that keeps the lent log and its own place in it, and its steps over a lent log and a place that the caller keeps.
 ghost use Rattle.std.specs.Prelude.{◌≡◌};
 ghost use Rattle.wal.specs.Read.{header_fault, read_at, read_before};
-ghost use Rattle.wal.specs.Reader.{kept_log, opened_at, place_after, place_before, refusal_number};
+ghost use Rattle.wal.specs.Reader.{kept_log, opened_at, place_after, place_before};
 
 use crate::{EntryView, FIRST, Reading, end_of, entry_at, entry_before, header_fault};
-use refusals::Refusal;
 
-// The refusal is 2 or 3 of the log; a refused log is held as an empty one, at place 0.
+// The number is refusal 2 or 3 of the log, or 0; a refused log is held as an empty one, at place 0. It stays a number: a caller may hold one that is no refusal's, and steps hand it on.
 #[derive(Clone, Copy)]
 pub struct LogReader<'a> {
     pub log: &'a [u8],
     pub place: usize,
-    pub refusal: Option<Refusal>,
+    pub number: u64,
 }
 
 impl<'a> LogReader<'a> {
@@ -19,12 +18,15 @@ impl<'a> LogReader<'a> {
     pub fn open(log: &'a [u8], at_end: bool) -> LogReader<'a>
         ensures log { result.log.now ≡ kept_log log.now }
         ensures place { result.place ≡ opened_at at_end log.now }
-        ensures refusal { refusal_number result.refusal ≡ header_fault log.now }
+        ensures number { result.number ≡ header_fault log.now }
     {
         LogReader {
             log: kept_part(log),
             place: opened_at(log, at_end),
-            refusal: header_fault(log).err(),
+            number: match header_fault(log) {
+                Ok(()) => 0,
+                Err(e) => e.number(),
+            },
         }
     }
 
@@ -33,7 +35,7 @@ impl<'a> LogReader<'a> {
         ensures found { result ≡ read_at self.old.log.now self.old.place }
         ensures log { self.new.log ≡ self.old.log }
         ensures place { self.new.place ≡ place_after (read_at self.old.log.now self.old.place) self.old.place }
-        ensures refusal { self.new.refusal ≡ self.old.refusal }
+        ensures number { self.new.number ≡ self.old.number }
     {
         forward_at(self.log, &mut self.place)
     }
@@ -43,7 +45,7 @@ impl<'a> LogReader<'a> {
         ensures found { result ≡ read_before self.old.log.now self.old.place }
         ensures log { self.new.log ≡ self.old.log }
         ensures place { self.new.place ≡ place_before (read_before self.old.log.now self.old.place) self.old.place }
-        ensures refusal { self.new.refusal ≡ self.old.refusal }
+        ensures number { self.new.number ≡ self.old.number }
     {
         backward_at(self.log, &mut self.place)
     }

@@ -5,7 +5,6 @@ ghost use Rattle.std.specs.Prelude.{◌≤◌};
 
 use crate::trip::there_and_back;
 use endian::{put_u16, put_u32, put_u64};
-use refusals::Refusal;
 use std::{fmt, io};
 use wal::reader::{backward_at, forward_at, kept_part, opened_at};
 use wal::{EntryView, Kind, Reading, end_of, entry_at, header_fault};
@@ -132,21 +131,20 @@ fn backward(rt: &impl Print, log: &[u8], from: usize) -> io::Result<usize> {
     Ok(at)
 }
 
-// The number of a refusal, 0 for none.
-fn number(refusal: Option<Refusal>) -> u64 {
-    match refusal {
-        Some(e) => e.number(),
-        None => 0,
+// The number of the header's refusal, 0 for none.
+fn number(log: &[u8]) -> u64 {
+    match header_fault(log) {
+        Ok(()) => 0,
+        Err(e) => e.number(),
     }
 }
 
 // The refusal of the header, the end of the walk and what stands there.
 fn show(rt: &impl Print, name: &str, log: &[u8]) -> io::Result<()> {
-    let refusal = header_fault(log).err();
     let end = end_of(log);
     println!(rt;
         "{name}: number {}, end {end}, {}",
-        number(refusal),
+        number(log),
         Ahead(entry_at(log, end))
     )
 }
@@ -172,7 +170,7 @@ fn opened(rt: &impl Print, log: &[u8]) -> io::Result<()> {
 // A reader opened behind the header or at the end, and what it finds by two steps forward and one back.
 fn travel(rt: &impl Print, name: &str, log: &[u8], end: bool) -> io::Result<()> {
     let t = there_and_back(log, end);
-    println!(rt; "{name}: number {}", number(t.refusal))?;
+    println!(rt; "{name}: number {}", t.number)?;
     println!(rt; "  forward: {}", Ahead(t.first))?;
     println!(rt; "  forward: {}", Ahead(t.second))?;
     println!(rt; "  backward: {}", Behind(t.third))?;

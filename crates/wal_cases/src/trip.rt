@@ -1,28 +1,24 @@
 // A log reader, from its opening on.
 ghost use Rattle.std.specs.Prelude.{◌≡◌};
-ghost use Rattle.wal.specs.Read.{header_fault};
-ghost use Rattle.wal.specs.Reader.{refusal_number};
 ghost use Rattle.wal_cases.specs.Trip.{trip_of};
 
-use refusals::Refusal;
 use wal::reader::LogReader;
 use wal::{EntryView, Reading};
 
-// What two steps forward and one back find, and the reader's place and refusal after them.
+// What two steps forward and one back find, and the reader's place and number after them.
 #[derive(Clone, Copy)]
 pub struct Trip {
     pub first: Reading,
     pub second: Reading,
     pub third: Option<EntryView>,
     pub place: usize,
-    pub refusal: Option<Refusal>,
+    pub number: u64,
 }
 
 // A reader is opened and goes from step to step.
 #[tactic(auto, unfolding(crate::specs::Trip::trip_of))]
 pub fn there_and_back(log: &[u8], end: bool) -> Trip
-    ensures finds { result ≡ trip_of end log.now result.refusal }
-    ensures refusal { refusal_number result.refusal ≡ header_fault log.now }
+    ensures { result ≡ trip_of end log.now }
 {
     let mut reader = LogReader::open(log, end);
     let first = reader.forward();
@@ -33,6 +29,6 @@ pub fn there_and_back(log: &[u8], end: bool) -> Trip
         second,
         third,
         place: reader.place,
-        refusal: reader.refusal,
+        number: reader.number,
     }
 }

@@ -238,7 +238,8 @@ pub fn by_blocks(log: &[u8], stop: usize, begins: &mut [u32], ends: &mut [u32]) 
     let mut b = next_block(log, begins, ends, TxnNumber(0), stop);
     loop {
         best = tested(log, best, b, begins, ends);
-        if b.hi == TOP {
+        let last = b.hi == TOP;
+        if last {
             return best;
         }
         b = next_block(log, begins, ends, TxnNumber(b.hi.0 + 1), best);

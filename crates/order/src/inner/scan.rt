@@ -31,7 +31,8 @@ fn early_fault(log: &[u8], v: EntryView, last: Lsn) -> Result<(), Refusal>
     if !shaped(log, v) {
         return Err(Refusal::EntryShape);
     }
-    if v.lsn <= last {
+    let stale = v.lsn <= last;
+    if stale {
         return Err(Refusal::LsnOrder);
     }
     Ok(())

@@ -7,13 +7,13 @@ pub returns-then-second-first : goal.returns-then-second-first
 unfolding lesser_of
 returns-then-second-first c = rw (le-leb c.args.second c.args.first (omega arith))
 
-pub returns-then-p-first : goal.returns-then-p-first
+pub returns-then-kept : goal.returns-then-kept
 unfolding lesser_of
-returns-then-p-first c = rw (c.in-Some.is, lt-leb c.args.second c.args.first (omega arith), le-leb c.in-Some.p.first c.args.first (omega arith))
+returns-then-kept c = rw (c.in-Some.is, lt-leb c.args.second c.args.first (omega arith), le-leb c.in-Some.p.first c.args.first (omega arith))
 
-pub returns-else-p-first : goal.returns-else-p-first
+pub returns-else-kept : goal.returns-else-kept
 unfolding lesser_of
-returns-else-p-first c = rw (c.in-Some.is, lt-leb c.args.second c.args.first (omega arith), lt-leb c.in-Some.p.first c.args.first (omega arith))
+returns-else-kept c = rw (c.in-Some.is, lt-leb c.args.second c.args.first (omega arith), lt-leb c.in-Some.p.first c.args.first (omega arith))
 
 pub returns-in_default : goal.returns-in_default
 unfolding lesser_of

@@ -10,22 +10,22 @@ loop-k-init c = (refl, rw c.requires.work_value (packing-none _))
 pub put_image-top-requires-clause-work_len : goal.put_image-top-requires-clause-work_len
 put_image-top-requires-clause-work_len c =
     let s = c.args.slots.now in
-    fill-room s.log.now s.page.now s.i c.count-n.result c.count-n.ensures c.requires.fits c.loop-k.invariant.1 c.loop-k-test.true c.image-m.ensures.stood
+    fill-room s.log.now s.page.now s.i c.args.n c.requires.n_value c.requires.fits c.loop-k.invariant.1 c.loop-k-test.true c.image-m.ensures.stood
 
 pub loop-k-preserved : goal.loop-k-preserved
 loop-k-preserved c =
     let s = c.args.slots.now in
     let p = c.put_image-top in (
       p.auto.work ∙ c.loop-k.invariant.0,
-      fill-next s.log.now s.page.now s.i c.count-n.result c.count-n.ensures c.requires.fits c.loop-k.invariant.1 c.loop-k-test.true c.image-m.ensures.stood _ _ p.auto.work p.ensures.value p.ensures.work_after,
+      fill-next s.log.now s.page.now s.i c.args.n c.requires.n_value c.requires.fits c.loop-k.invariant.1 c.loop-k-test.true c.image-m.ensures.stood _ _ p.auto.work p.ensures.value p.ensures.work_after,
     )
 
 pub returns-clause-value : goal.returns-clause-value
 returns-clause-value c =
     let s = c.args.slots.now in
-    (fill-all s.log.now s.page.now s.i c.count-n.result c.count-n.ensures (omega arith) c.loop-k.invariant.1).0
+    (fill-all s.log.now s.page.now s.i c.args.n c.requires.n_value (omega arith) c.loop-k.invariant.1).0
 
 pub returns-clause-work_after : goal.returns-clause-work_after
 returns-clause-work_after c =
     let s = c.args.slots.now in
-    (fill-all s.log.now s.page.now s.i c.count-n.result c.count-n.ensures (omega arith) c.loop-k.invariant.1).1
+    (fill-all s.log.now s.page.now s.i c.args.n c.requires.n_value (omega arith) c.loop-k.invariant.1).1

@@ -1,5 +1,5 @@
 -- A page more is mended, and counted where it was rewritten.
-use Rattle.std.proofs.Common.{arith, refl, ◌∙◌}
+use Rattle.std.proofs.Common.{◌<◌, arith, refl, ◌∙◌}
 use Rattle.wal.specs.Walk.{entries}
 use Rattle.rules.specs.Recover.{is_touched}
 use Rattle.mend.proofs.Areas.{mended-none, mended-page, one-le, touched-le}
@@ -16,4 +16,5 @@ overflow_add-rewritten c =
 pub loop-i-preserved : goal.loop-i-preserved
 loop-i-preserved c =
     let m = c.mend_page-rewritten in
-    (m.auto.pages ∙ c.loop-i.invariant.0, mended-page c.loop-i.invariant.1 c.loop-i-test.true c.requires.fitting (omega (arith, c.requires.n_value)) {v = m.new.pages} m.ensures.pages_after m.ensures.value)
+    let low : c.loop-i.i < c.args.changes.now.n = omega arith in
+    (m.auto.pages ∙ c.loop-i.invariant.0, mended-page c.loop-i.invariant.1 low c.requires.fitting (omega (arith, c.requires.n_value)) {v = m.new.pages} m.ensures.pages_after m.ensures.value)

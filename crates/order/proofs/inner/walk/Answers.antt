@@ -15,8 +15,8 @@ returns-then-is_some c =
     let s = c.scan-s in
     some-of s.result.turns (sym c.is_some.ensures ∙ c.if-is_some.true) (λ h e. walked-others _ c.args.log.now s.ensures.scanned (s.ensures.first_wrong h e) (omega arith))
 
-pub returns-then-place-s : goal.returns-then-place-s
-returns-then-place-s c = walked-wrong _ c.args.log.now c.scan-s.ensures.scanned c.by_blocks-place.ensures c.at.result c.at.ensures.why c.at.ensures.place (omega arith)
+pub returns-then-earlier : goal.returns-then-earlier
+returns-then-earlier c = walked-wrong _ c.args.log.now c.scan-s.ensures.scanned c.by_blocks-place.ensures c.at.result c.at.ensures.why c.at.ensures.place (omega arith)
 
 pub returns : goal.returns
 returns c = walked-others _ c.args.log.now c.scan-s.ensures.scanned c.by_blocks-place.ensures (omega arith)

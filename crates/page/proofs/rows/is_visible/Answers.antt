@@ -7,8 +7,8 @@ use Rattle.std.proofs.Common.{arith}
 use Rattle.page.proofs.Visibility.{seen-deleted, seen-xmax}
 use Rattle.page.proofs.rows.is_visible.Goals as goal
 
-pub returns-then-page-o-ne0 : goal.returns-then-page-o-ne0
-returns-then-page-o-ne0 c =
+pub returns-then-deleted : goal.returns-then-deleted
+returns-then-deleted c =
     let size : length c.args.page.now ≡ page_bytes = omega arith in
     seen-deleted _ size c.requires.data_good _ c.requires.k_bound.0 c.requires.k_bound.1 _ c.slot_off-o.ensures.0 (omega arith)
 

@@ -25,7 +25,10 @@ pub invariant_of-changes : goal.invariant_of-changes
 invariant_of-changes c =
     let s = sure _ _ _ _ _ (sym (ap (λ (v : Verdict). v.number) c.in_default.ensures.tells)) in
     let a = c.in_default.ensures.accepted in
-    record { small = (s.few, s.small); ordered = s.ordered; starts = a.begin; lists = a.next; listed = a.listed }
+    record { small = (s.few, s.small); ordered = s.ordered; measured = a.next; listed = a.listed }
+
+pub winning-m-requires-clause-starts : goal.winning-m-requires-clause-starts
+winning-m-requires-clause-starts c = c.in_default.ensures.accepted.begin
 
 pub winning-m-requires-clause-sound : goal.winning-m-requires-clause-sound
 winning-m-requires-clause-sound c =

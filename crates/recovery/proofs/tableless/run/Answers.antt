@@ -9,7 +9,10 @@ pub invariant_of-changes : goal.invariant_of-changes
 invariant_of-changes c =
     let s = sure _ _ _ _ _ (sym (ap (λ (v : Verdict). v.number) c.in-Ok.ensures.tells)) in
     let a = c.in-Ok.ensures.accepted in
-    record { small = (s.few, s.small); ordered = s.ordered; starts = a.begin; lists = a.next; listed = a.listed }
+    record { small = (s.few, s.small); ordered = s.ordered; measured = a.next; listed = a.listed }
+
+pub mend_all-rewritten-requires-clause-starts : goal.mend_all-rewritten-requires-clause-starts
+mend_all-rewritten-requires-clause-starts c = c.in-Ok.ensures.accepted.begin
 
 pub mend_all-rewritten-requires-clause-lasts : goal.mend_all-rewritten-requires-clause-lasts
 mend_all-rewritten-requires-clause-lasts c = c.in-Ok.ensures.accepted.touched

@@ -6,7 +6,7 @@ use Rattle.endian.specs.Numbers.{Bytes}
 use Rattle.refusals.specs.Refusal.{number_of}
 use Rattle.summary.specs.Inner.{Ends}
 use Rattle.refusals.proofs.Told.{refused-at}
-use Rattle.summary.proofs.Places.{taken, end-found, read-early, read-misspelt, value-fits, read-well}
+use Rattle.summary.proofs.Places.{taken, end-found, read-early, read-misspelt, value-fits, read-well, read-single}
 use Rattle.summary.proofs.numbers.read.Goals as goal
 use Rattle.summary.proofs.numbers.read.Goals.{In-Some}
 
@@ -16,6 +16,11 @@ bytes c = record { at = λ i. (c.type_inv.file i).fits }
 -- the last group is there
 ends : (c : In-Some) → Ends c.args.file.now c.args.at c.in-Some.end
 ends c = end-found c.args.file.now c.args.at c.in-Some.end c.in-Some.ensures
+
+pub returns-then-file-at-lt128 : goal.returns-then-file-at-lt128
+returns-then-file-at-lt128 c =
+    ap (λ (v : ℕ). Ok (taken v (c.args.at + 1))) c.from.ensures
+    ∙ read-single c.args.file.now c.args.at (record { at = λ i. (c.type_inv.file i).fits }) c.if-at-file.true c.if-file-at-lt128.true
 
 pub returns-in_default : goal.returns-in_default
 returns-in_default c = rw (refused-at c.at.result 28 c.args.at (ap number_of c.at.ensures.why) c.at.ensures.place) (read-early c.args.file.now c.args.at c.in_default.ensures)
@@ -37,8 +42,8 @@ value-requires-clause-at_bound c =
     let s = (goal.at.value-requires-clause-at_bound c).In-Some in
     value-fits c.args.file.now c.args.at c.in-Some.end (bytes s) (ends s) (sym c.if-is_misspelt.ensures)
 
-pub overflow_add-result : goal.overflow_add-result
-overflow_add-result c = record { fits = omega (arith, (ends (goal.at.overflow_add-result c).In-Some).within) }
+pub overflow_add-result-2 : goal.overflow_add-result-2
+overflow_add-result-2 c = record { fits = omega (arith, (ends (goal.at.overflow_add-result-2 c).In-Some).within) }
 
 pub returns : goal.returns
 returns c =

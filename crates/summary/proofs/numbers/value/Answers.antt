@@ -18,6 +18,9 @@ more c =
     let k = upto_le f c.args.at c.args.end e (c.loop-p.p - 1) (omega arith) (omega arith) in
     (omega (arith, m, c.loop-p.invariant.so-far), omega (arith, m, k, c.loop-p.invariant.so-far, c.requires.at_bound))
 
+pub bounds-file-p : goal.bounds-file-p
+bounds-file-p c = omega (arith, c.requires.ends.within)
+
 pub overflow_mul-n : goal.overflow_mul-n
 overflow_mul-n c = record { fits = omega (arith, (more c).1) }
 
@@ -25,10 +28,10 @@ pub overflow_add-n : goal.overflow_add-n
 overflow_add-n c = record { fits = omega (arith, (more (goal.at.overflow_add-n c).In-loop-p).1) }
 
 pub loop-p-init : goal.loop-p-init
-loop-p-init c = record { below = omega (arith, c.requires.ends.at); so-far = sym (upto-none c.args.file.now c.args.at c.args.end c.requires.ends) }
+loop-p-init c = record { below = omega (arith, c.requires.ends.at); above = omega arith; so-far = sym (upto-none c.args.file.now c.args.at c.args.end c.requires.ends) }
 
 pub loop-p-preserved : goal.loop-p-preserved
-loop-p-preserved c = record { below = omega arith; so-far = rw c.from.ensures (sym (more (goal.at.loop-p-preserved c).In-loop-p).0) }
+loop-p-preserved c = record { below = omega arith; above = omega arith; so-far = rw c.from.ensures (sym (more (goal.at.loop-p-preserved c).In-loop-p).0) }
 
 pub returns : goal.returns
 returns c =

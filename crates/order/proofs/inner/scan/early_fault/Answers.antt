@@ -12,9 +12,9 @@ pub returns-then-not-shaped : goal.returns-then-not-shaped
 unfolding early_fault entry_of
 returns-then-not-shaped c = grind (arith, common_steps)
 
-pub returns-then-le : goal.returns-then-le
+pub returns-then-stale : goal.returns-then-stale
 unfolding early_fault entry_of
-returns-then-le c = grind (arith, common_steps)
+returns-then-stale c = grind (arith, common_steps)
 
 pub returns : goal.returns
 unfolding early_fault entry_of
