@@ -1,6 +1,7 @@
 // The checksum over lent tables: sixteen bytes at a time. A long input is first shortened by a sparse multiple of the polynomial, which needs no table.
 ghost use Rattle.std.specs.Prelude.{◌≡◌, ℕ, ◌+◌, ◌*◌, ◌%◌, ◌^◌, ◌<◌, ◌≤◌, List, ◌++◌, length, take, drop};
 ghost use Rattle.crc32c.specs.Crc.{shifts, fed, crc32c as crc_of};
+ghost use Rattle.crc32c.specs.Tables.{Tables as AreTables, leaves, Upto};
 ghost use Rattle.crc32c.specs.Sparse.{history_bytes, chunk_bytes, buffer_bytes, ending_bytes, last_bytes, Filled, Room, carried};
 
 pub use crate::tables::Tables;
@@ -36,16 +37,51 @@ fn byte(x: u32) -> u32
     r
 }
 
-// The sixteen tables.
-pub fn tables() -> Tables {
-    let mut words = [0u32; 4096];
+// Entry k, looked up: what the one of the table before leaves after one more byte.
+fn entry(words: &[u32; 4096], k: usize) -> u32
+    requires { (256 ≤ k) × (k < 4096) × Upto words.now k }
+    ensures { result ≡ leaves k }
+{
+    let x = words[k - 256];
+    (x >> 8) ^ words[(x & 255) as usize]
+}
+
+// Table n, from the one before it and the first. Looked up are its first sixteen entries and the first entry of each later row of sixteen. Every other entry is the exclusive or of two of these: a byte is that of its low and its high four bits, and what it leaves is that of what they leave.
+fn fill_table(words: &mut [u32; 4096], n: usize)
+    requires n_in_bounds { (1 ≤ n) × (n < 16) }
+    requires earlier { Upto words.old (256 * n) }
+    ensures { Upto words.new (256 * n + 256) }
+{
+    let at = 256 * n;
+    'looks: for k in at..at + 16 {
+        words[k] = entry(words, k);
+    }
+    'sums: for row in 1..16usize {
+        let k = at + 16 * row;
+        let x = entry(words, k);
+        for j in 0..16usize {
+            words[k + j] = words[at + j] ^ x;
+        }
+    }
+}
+
+// All sixteen tables. Not inlined, so that `tables` itself is short enough for LLVM to put it into its callers: else it has a frame of its own, 16 KiB of stack more below each caller.
+#[inline(never)]
+fn fill_tables(words: &mut [u32; 4096])
+    ensures { AreTables words.new }
+{
     'first: for n in 0..256u32 {
         words[n as usize] = byte(n);
     }
-    'rest: for k in 256..4096usize {
-        let x = words[k - 256];
-        words[k] = (x >> 8) ^ words[(x & 255) as usize];
+    'rest: for n in 1..16usize {
+        fill_table(words, n);
     }
+}
+
+// The sixteen tables.
+pub fn tables() -> Tables {
+    let mut words = [0u32; 4096];
+    fill_tables(&mut words);
     Tables { words }
 }
 
